@@ -1,0 +1,5 @@
+pub mod Faults
+pub mod Limits
+pub mod Entries
+pub mod Refusals
+pub mod Answers
