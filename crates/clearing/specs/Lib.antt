@@ -1,0 +1,3 @@
+pub mod Networks
+pub mod Settling
+pub mod Promises
