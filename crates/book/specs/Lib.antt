@@ -1,0 +1,6 @@
+pub mod Tables
+pub mod Rulebooks
+pub mod Views
+pub mod Calls
+pub mod Rests
+pub mod Lives
