@@ -1,0 +1,8 @@
+// What the engine reports of a network file: the lines of its settlement sheet, or why it was refused.
+mod line;
+mod statement;
+
+pub use line::Line;
+pub use line::LineDisplay;
+pub use line::print;
+pub use statement::sheet_lines;
