@@ -1,8 +1,11 @@
 // What the engine reports of a network file: the lines of its settlement sheet, or why it was refused.
 mod line;
 mod statement;
+mod task_line;
 
 pub use line::Line;
 pub use line::LineDisplay;
 pub use line::print;
 pub use statement::sheet_lines;
+pub use task_line::TaskLine;
+pub use task_line::TaskLineDisplay;
