@@ -1,2 +1,4 @@
 pub mod Claims
 pub mod Laws
+pub mod Places
+pub mod Priority
