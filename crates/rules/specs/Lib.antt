@@ -2,3 +2,4 @@ pub mod Claims
 pub mod Laws
 pub mod Places
 pub mod Priority
+pub mod Standards
