@@ -1,2 +1,5 @@
 pub mod Lists
 pub mod PriorityLaws
+pub mod Fractions
+pub mod Picks
+pub mod UnitLaws

@@ -1,10 +1,13 @@
--- Lists made place by place: their lengths, places and sums.
-use mathlib.Core.List.{List}
-use mathlib.Core.Path.{_≡_}
-use Prim.Native.Nat.{ℕ, _<_}
-use lib.ListN.{length, getD}
-use Rattle.std.proofs.shelf.Counted.{length-map-counting, getD-map-counting}
+-- Lists of units: their lengths, places and sums.
+use mathlib.Core.List.{List, [], _∷_}
+use mathlib.Core.Path.{_≡_, refl}
+use Prim.Native.Nat.{ℕ, zero, suc, _*_, _<_, _≤_}
 use native.Mathlib.Omega.{arith}
+use lib.ListN.{length, getD, replicate}
+use Rattle.std.specs.shelf.Lists.{sum}
+use Rattle.std.proofs.shelf.Counted.{length-map-counting, getD-map-counting}
+use Rattle.std.proofs.shelf.Sums.{sumBy-cons}
+use Rattle.rules.specs.Claims.{Admitted}
 use Rattle.rules.specs.Places.{each}
 
 pub length-each : (cs : List ℕ) (f : ℕ → ℕ) → length (each cs f) ≡ length cs
@@ -12,3 +15,27 @@ length-each cs f = length-map-counting f 0 (length cs)
 
 pub getD-each : (cs : List ℕ) (f : ℕ → ℕ) (k : ℕ) → k < length cs → getD (each cs f) k 0 ≡ f k
 getD-each cs f k lt = getD-map-counting f 0 (length cs) k k 0 lt (omega arith)
+
+pub sum-zeros : (n : ℕ) → sum (replicate n 0) ≡ 0
+sum-zeros zero = refl
+sum-zeros (suc n) = omega (arith, sum-zeros n, sumBy-cons (λ x. x) 0 (replicate n 0))
+
+pub getD-zeros : (n k : ℕ) → getD {A = ℕ} (replicate n 0) k 0 ≡ 0
+getD-zeros zero k = refl
+getD-zeros (suc n) zero = refl
+getD-zeros (suc n) (suc k) = getD-zeros n k
+
+-- no more at any place, so no more in all
+pub sum-le : (xs ys : List ℕ) → length xs ≡ length ys → ((k : ℕ) → k < length xs → getD xs k 0 ≤ getD ys k 0) → sum xs ≤ sum ys
+sum-le [] [] same le = omega arith
+sum-le [] (y ∷ ys) same le = omega arith
+sum-le (x ∷ xs) [] same le = absurd (omega arith)
+sum-le (x ∷ xs) (y ∷ ys) same le =
+    omega (arith, le 0 (omega arith), sum-le xs ys (omega arith) (λ k lt. le (suc k) (omega arith)), sumBy-cons (λ x. x) x xs, sumBy-cons (λ x. x) y ys)
+
+sum-small : (cs : List ℕ) → ((k : ℕ) → getD cs k 0 ≤ 10000) → sum cs ≤ 10000 * length cs
+sum-small [] small = omega arith
+sum-small (c ∷ cs) small = omega (arith, small 0, sum-small cs (λ k. small (suc k)), sumBy-cons (λ x. x) c cs)
+
+pub admitted-total : (cs : List ℕ) → Admitted cs → sum cs ≤ 320000
+admitted-total cs ok = omega (arith, sum-small cs (ok .small), ok .few)

@@ -3,3 +3,4 @@ pub mod Laws
 pub mod Places
 pub mod Priority
 pub mod Standards
+pub mod Unit

@@ -10,6 +10,7 @@ pub struct EqualAwards;
 
 pub impl Standard for EqualAwards as EqualAwardsStandard {
     const MAX_NUMERATOR: u32 = 1;
+
     const MAX_DENOMINATOR: u32 = 10_000;
 
     ghost numerators = { 1 };

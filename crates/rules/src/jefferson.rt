@@ -10,6 +10,7 @@ pub struct Jefferson;
 
 pub impl Standard for Jefferson as JeffersonStandard {
     const MAX_NUMERATOR: u32 = 10_000;
+
     const MAX_DENOMINATOR: u32 = 10_000;
 
     ghost numerators = { 10000 };

@@ -27,7 +27,7 @@ pub impl Rulebook for Priority as PriorityRulebook {
 
     fn awards(
         &self,
-        house: u8,
+        _house: u8,
         estate: u32,
         claims: &[u32],
         awards: &mut [u32],

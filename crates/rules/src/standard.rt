@@ -7,6 +7,7 @@ ghost use Rattle.rules.specs.Standards.{Scoring, Measured, out-of-reach};
 pub trait Standard {
     // The largest numerator and the largest denominator that it answers.
     const MAX_NUMERATOR: u32;
+
     const MAX_DENOMINATOR: u32;
 
     // The same two numbers, for contracts, to which `limits` ties the constants.
