@@ -1,20 +1,37 @@
 -- Lists of units: their lengths, places and sums.
 use mathlib.Core.List.{List, [], _∷_}
-use mathlib.Core.Path.{_≡_, refl}
-use Prim.Native.Nat.{ℕ, zero, suc, _*_, _<_, _≤_}
+use mathlib.Core.Path.{_≡_, refl, sym, ap}
+use Prim.Native.Nat.{ℕ, zero, suc, _+_, _*_, _<_, _≤_}
 use native.Mathlib.Omega.{arith}
 use lib.ListN.{length, getD, replicate}
 use Rattle.std.specs.shelf.Lists.{sum}
 use Rattle.std.proofs.shelf.Counted.{length-map-counting, getD-map-counting}
 use Rattle.std.proofs.shelf.Sums.{sumBy-cons}
 use Rattle.rules.specs.Claims.{Admitted}
-use Rattle.rules.specs.Places.{each}
+use Rattle.rules.specs.Places.{each, plus}
 
 pub length-each : (cs : List ℕ) (f : ℕ → ℕ) → length (each cs f) ≡ length cs
 length-each cs f = length-map-counting f 0 (length cs)
 
 pub getD-each : (cs : List ℕ) (f : ℕ → ℕ) (k : ℕ) → k < length cs → getD (each cs f) k 0 ≡ f k
 getD-each cs f k lt = getD-map-counting f 0 (length cs) k k 0 lt (omega arith)
+
+pub length-plus : (xs ys : List ℕ) → length xs ≡ length ys → length (plus xs ys) ≡ length xs
+length-plus [] ys same = sym same
+length-plus (x ∷ xs) [] same = refl
+length-plus (x ∷ xs) (y ∷ ys) same = ap suc (length-plus xs ys (omega arith))
+
+pub getD-plus : (xs ys : List ℕ) (k : ℕ) → getD (plus xs ys) k 0 ≡ getD xs k 0 + getD ys k 0
+getD-plus [] ys k = omega arith
+getD-plus (x ∷ xs) [] k = omega arith
+getD-plus (x ∷ xs) (y ∷ ys) zero = refl
+getD-plus (x ∷ xs) (y ∷ ys) (suc k) = getD-plus xs ys k
+
+pub sum-plus : (xs ys : List ℕ) → sum (plus xs ys) ≡ sum xs + sum ys
+sum-plus [] ys = omega arith
+sum-plus (x ∷ xs) [] = omega arith
+sum-plus (x ∷ xs) (y ∷ ys) =
+    omega (arith, sum-plus xs ys, sumBy-cons (λ x. x) x xs, sumBy-cons (λ x. x) y ys, sumBy-cons (λ x. x) (x + y) (plus xs ys))
 
 pub sum-zeros : (n : ℕ) → sum (replicate n 0) ≡ 0
 sum-zeros zero = refl

@@ -4,3 +4,5 @@ pub mod Places
 pub mod Priority
 pub mod Standards
 pub mod Unit
+pub mod InTurn
+pub mod Classes
