@@ -6,3 +6,4 @@ pub mod UnitLaws
 pub mod Acceptance
 pub mod InTurnLaws
 pub mod ClassLaws
+pub mod DualLaws

@@ -1,14 +1,14 @@
 -- Lists of units: their lengths, places and sums.
 use mathlib.Core.List.{List, [], _∷_}
 use mathlib.Core.Path.{_≡_, refl, sym, ap}
-use Prim.Native.Nat.{ℕ, zero, suc, _+_, _*_, _<_, _≤_}
+use Prim.Native.Nat.{ℕ, zero, suc, _+_, _-_, _*_, _<_, _≤_}
 use native.Mathlib.Omega.{arith}
 use lib.ListN.{length, getD, replicate}
 use Rattle.std.specs.shelf.Lists.{sum}
 use Rattle.std.proofs.shelf.Counted.{length-map-counting, getD-map-counting}
 use Rattle.std.proofs.shelf.Sums.{sumBy-cons}
 use Rattle.rules.specs.Claims.{Admitted}
-use Rattle.rules.specs.Places.{each, plus}
+use Rattle.rules.specs.Places.{each, plus, minus}
 
 pub length-each : (cs : List ℕ) (f : ℕ → ℕ) → length (each cs f) ≡ length cs
 length-each cs f = length-map-counting f 0 (length cs)
@@ -32,6 +32,31 @@ sum-plus [] ys = omega arith
 sum-plus (x ∷ xs) [] = omega arith
 sum-plus (x ∷ xs) (y ∷ ys) =
     omega (arith, sum-plus xs ys, sumBy-cons (λ x. x) x xs, sumBy-cons (λ x. x) y ys, sumBy-cons (λ x. x) (x + y) (plus xs ys))
+
+pub length-minus : (xs ys : List ℕ) → length (minus xs ys) ≡ length xs
+length-minus [] ys = refl
+length-minus (x ∷ xs) [] = refl
+length-minus (x ∷ xs) (y ∷ ys) = ap suc (length-minus xs ys)
+
+pub getD-minus : (xs ys : List ℕ) (k : ℕ) → getD (minus xs ys) k 0 ≡ getD xs k 0 - getD ys k 0
+getD-minus [] ys k = omega arith
+getD-minus (x ∷ xs) [] k = omega arith
+getD-minus (x ∷ xs) (y ∷ ys) zero = refl
+getD-minus (x ∷ xs) (y ∷ ys) (suc k) = getD-minus xs ys k
+
+pub sum-minus : (xs ys : List ℕ) → length ys ≡ length xs → ((k : ℕ) → getD ys k 0 ≤ getD xs k 0) → sum (minus xs ys) + sum ys ≡ sum xs
+sum-minus [] [] same le = refl
+sum-minus [] (y ∷ ys) same le = absurd (omega arith)
+sum-minus (x ∷ xs) [] same le = absurd (omega arith)
+sum-minus (x ∷ xs) (y ∷ ys) same le =
+    omega (
+      arith,
+      le 0,
+      sum-minus xs ys (omega arith) (λ k. le (suc k)),
+      sumBy-cons (λ x. x) x xs,
+      sumBy-cons (λ x. x) y ys,
+      sumBy-cons (λ x. x) (x - y) (minus xs ys),
+    )
 
 pub sum-zeros : (n : ℕ) → sum (replicate n 0) ≡ 0
 sum-zeros zero = refl

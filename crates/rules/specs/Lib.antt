@@ -6,3 +6,5 @@ pub mod Standards
 pub mod Unit
 pub mod InTurn
 pub mod Classes
+pub mod Dual
+pub mod Choice

@@ -1,7 +1,9 @@
 // Rulebooks: how the estate of a debtor is divided among its creditors.
+mod choice;
 mod claims;
 mod class_table;
 mod classes;
+mod dual;
 mod equal_awards;
 mod in_turn;
 mod jefferson;
@@ -10,9 +12,13 @@ mod rulebook;
 mod standard;
 mod unit;
 
+pub use choice::Choice;
+pub use choice::ChoiceRulebook;
 pub use class_table::ClassTable;
 pub use classes::Classes;
 pub use classes::ClassesRulebook;
+pub use dual::Dual;
+pub use dual::DualRulebook;
 pub use equal_awards::EqualAwards;
 pub use equal_awards::EqualAwardsStandard;
 pub use jefferson::Jefferson;
