@@ -7,3 +7,5 @@ pub mod Acceptance
 pub mod InTurnLaws
 pub mod ClassLaws
 pub mod DualLaws
+pub mod ChoiceLaws
+pub mod StandardScores

@@ -8,3 +8,5 @@ pub mod InTurn
 pub mod Classes
 pub mod Dual
 pub mod Choice
+pub mod Theorems
+pub mod Ring
