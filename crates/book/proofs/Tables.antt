@@ -17,7 +17,7 @@ use Rattle.network.specs.declared.fault.Fault.{Fault}
 use Rattle.network.specs.Entries.{member-at}
 use Rattle.network.specs.Answers.{Gives}
 use Rattle.rules.specs.Claims.{awards-fault}
-use Rattle.rules.proofs.Accepted.{accepted}
+use Rattle.rules.proofs.Acceptance.{filled}
 use Rattle.clearing.specs.Networks.{Network, LawfulDivision, AtMost, total, estate}
 use Rattle.clearing.proofs.Totals.{total-le, total-eq, total-none}
 use Rattle.book.specs.Tables.{cells, network-of, Capped, Solvent}
@@ -83,8 +83,9 @@ module _ (A : Meaning) (law : LawfulMeaning A) (B : Book) (m : ℕ) (l : m < B .
 
       is : out ≡ A house (estate-of B m) (claims-on (B .figures) m)
       is =
-          accepted _ _ (take (n - 0) (getD (B .figures .claims) m [])) (length (take (n - 0) zeros)) r (rw asked (claims-admitted (B .figures) m l))
-          (ap length asked ∙ claims-length (B .figures) m l ∙ sym (length-take-le (n - 0) zeros (omega (arith, B .figures .few)) ∙ all)) answer
+          filled (take (n - 0) (getD (B .figures .claims) m [])) (length (take (n - 0) zeros)) r (A house E (take (n - 0) (getD (B .figures .claims) m []))) (take (n - 0) zeros) out
+          (rw asked (claims-admitted (B .figures) m l))
+          (length-take-le (n - 0) zeros (omega (arith, B .figures .few)) ∙ all ∙ sym (ap length asked ∙ claims-length (B .figures) m l)) answer
           ∙ ap (λ xs. A house E xs) asked ∙ ap (λ e. A house e (claims-on (B .figures) m)) worth
 
       value : (j : ℕ) → getD (out ++ drop (n - 0) zeros) j 0 ≡ due-of A B m j

@@ -1,1 +1,11 @@
-pub mod Accepted
+pub mod Lists
+pub mod PriorityLaws
+pub mod Fractions
+pub mod Picks
+pub mod UnitLaws
+pub mod Acceptance
+pub mod InTurnLaws
+pub mod ClassLaws
+pub mod DualLaws
+pub mod ChoiceLaws
+pub mod StandardScores

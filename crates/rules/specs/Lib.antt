@@ -1,2 +1,12 @@
 pub mod Claims
 pub mod Laws
+pub mod Places
+pub mod Priority
+pub mod Standards
+pub mod Unit
+pub mod InTurn
+pub mod Classes
+pub mod Dual
+pub mod Choice
+pub mod Theorems
+pub mod Ring

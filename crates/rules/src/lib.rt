@@ -1,5 +1,37 @@
 // Rulebooks: how the estate of a debtor is divided among its creditors.
+mod choice;
+mod claims;
+mod class_table;
+mod classes;
+mod dual;
+mod equal_awards;
+mod in_turn;
+mod jefferson;
+mod priority;
+mod ring;
 mod rulebook;
+mod standard;
+mod unit;
 
+pub use choice::Choice;
+pub use choice::ChoiceRulebook;
+pub use class_table::ClassTable;
+pub use classes::Classes;
+pub use classes::ClassesRulebook;
+pub use dual::Dual;
+pub use dual::DualRulebook;
+pub use equal_awards::EqualAwards;
+pub use equal_awards::EqualAwardsStandard;
+pub use jefferson::Jefferson;
+pub use jefferson::JeffersonStandard;
+pub use priority::Priority;
+pub use priority::PriorityRulebook;
+pub use ring::RingHouses;
+pub use ring::RingRulebook;
+pub use ring::ring_rulebook;
 pub use rulebook::Rulebook;
 pub use rulebook::check_claims;
+pub use standard::Standard;
+pub use standard::out_of_reach;
+pub use unit::UnitRule;
+pub use unit::UnitRuleRulebook;

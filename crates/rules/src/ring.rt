@@ -1,0 +1,86 @@
+// The ring's rulebook: which rule each house has.
+ghost use mathlib.Core.Path.{_≡_};
+ghost use Rattle.rules.specs.Classes.{classes-of};
+ghost use Rattle.rules.specs.Ring.{ring-rule, RingRules};
+use crate::choice::Choice;
+use crate::choice::ChoiceRulebook;
+use crate::class_table::ClassTable;
+use crate::classes::Classes;
+use crate::classes::ClassesRulebook;
+use crate::dual::Dual;
+use crate::dual::DualRulebook;
+use crate::equal_awards::EqualAwards;
+use crate::equal_awards::EqualAwardsStandard;
+use crate::jefferson::Jefferson;
+use crate::jefferson::JeffersonStandard;
+use crate::priority::Priority;
+use crate::priority::PriorityRulebook;
+use crate::rulebook::Rulebook;
+use crate::unit::UnitRule;
+use crate::unit::UnitRuleRulebook;
+use network::Fault;
+use network::Figures;
+
+// Houses 0 to 3, each with a rule of its own, and all others.
+type Houses = Choice<
+    Priority,
+    Choice<
+        UnitRule<EqualAwards>,
+        Choice<
+            UnitRule<Jefferson>,
+            Choice<Dual<UnitRule<EqualAwards>>, Classes<UnitRule<Jefferson>>>,
+        >,
+    >,
+>;
+
+// Priority for house 0, equal awards for 1, Jefferson for 2, the dual of equal awards for 3, and classes
+// over Jefferson for every other house.
+#[derive(Clone, Copy)]
+pub struct RingRulebook {
+    houses: Houses,
+}
+
+// The ring's rulebook for a network, whose members' classes it takes.
+pub fn ring_rulebook(figures: &Figures) -> RingRulebook
+    ensures { λ r. ⌜ RingRules (ring-rule r) (classes-of (now (figures .entry))) ⌝ }
+{
+    let equal_awards = UnitRule {
+        standard: EqualAwards,
+    };
+    let jefferson = UnitRule {
+        standard: Jefferson,
+    };
+    let houses = Choice {
+        first: Priority,
+        second: Choice {
+            first: equal_awards,
+            second: Choice {
+                first: jefferson,
+                second: Choice {
+                    first: Dual {
+                        below: equal_awards,
+                    },
+                    second: Classes {
+                        below: jefferson,
+                        table: ClassTable::of(figures),
+                    },
+                },
+            },
+        },
+    };
+    RingRulebook { houses }
+}
+
+pub impl Rulebook for RingRulebook as RingHouses {
+    ghost awarded = { ring-rule };
+
+    fn awards(
+        &self,
+        house: u8,
+        estate: u32,
+        claims: &[u32],
+        awards: &mut [u32],
+    ) -> Result<(), Fault> {
+        self.houses.awards(house, estate, claims, awards)
+    }
+}
