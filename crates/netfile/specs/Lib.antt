@@ -1,0 +1,4 @@
+pub mod Records
+pub mod Files
+pub mod Checks
+pub mod Loads

@@ -1,0 +1,12 @@
+// The network file: its records, the members that it counts, and a draft read from it or written into it.
+mod counting;
+mod due;
+mod fault;
+mod reading;
+mod record;
+
+pub use counting::count;
+pub use record::BODY_LENGTHS;
+pub use record::Record;
+pub use record::record_at;
+pub use record::rest_after;
