@@ -2,3 +2,4 @@ pub mod Records
 pub mod Files
 pub mod Checks
 pub mod Loads
+pub mod Writes

@@ -4,9 +4,12 @@ mod due;
 mod fault;
 mod reading;
 mod record;
+mod writing;
 
 pub use counting::count;
 pub use record::BODY_LENGTHS;
 pub use record::Record;
 pub use record::record_at;
 pub use record::rest_after;
+pub use writing::file_length;
+pub use writing::write;
