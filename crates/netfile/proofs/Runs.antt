@@ -94,3 +94,23 @@ run-cons F p c = refl
 pub run-zero : (F : ℕ → List ℕ) (p : ℕ) → run F p 0 ≡ []
 unfolding run
 run-zero F p = refl
+
+-- runs that agree, and a run of nothing
+pub run-same : (F G : ℕ → List ℕ) (p c : ℕ) → ((i : ℕ) → p ≤ i → i < p + c → F i ≡ G i) → run F p c ≡ run G p c
+unfolding run
+run-same F G p zero same = refl
+run-same F G p (suc c) same =
+    rw (same p (omega arith) (omega arith), run-same F G (p + 1) c (λ i a b. same i (omega arith) (omega arith)))
+
+run-nothing : (F : ℕ → List ℕ) (p c : ℕ) → ((i : ℕ) → p ≤ i → i < p + c → F i ≡ []) → run F p c ≡ []
+unfolding run
+run-nothing F p zero none = refl
+run-nothing F p (suc c) none =
+    rw (none p (omega arith) (omega arith)) (run-nothing F (p + 1) c (λ i a b. none i (omega arith) (omega arith)))
+
+-- a run goes no further where nothing follows
+pub run-idle : (F : ℕ → List ℕ) (p q : ℕ) → p ≤ q → ((i : ℕ) → p ≤ i → i < q → F i ≡ []) → run F 0 q ≡ run F 0 p
+run-idle F p q h none =
+    let e : q ≡ p + (q - p) = omega arith in
+    ap (run F 0) e ∙ (run-split F 0 p (q - p) ∙
+    (ap (λ r. run F 0 p ++ r) (run-nothing F (0 + p) (q - p) (λ i a b. none i (omega arith) (omega arith))) ∙ append-nil (run F 0 p)))

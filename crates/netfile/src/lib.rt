@@ -2,11 +2,13 @@
 mod counting;
 mod due;
 mod fault;
+mod loading;
 mod reading;
 mod record;
 mod writing;
 
 pub use counting::count;
+pub use loading::load;
 pub use record::BODY_LENGTHS;
 pub use record::Record;
 pub use record::record_at;
