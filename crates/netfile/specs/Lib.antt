@@ -1,0 +1,5 @@
+pub mod Records
+pub mod Files
+pub mod Checks
+pub mod Loads
+pub mod Writes

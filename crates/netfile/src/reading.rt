@@ -1,0 +1,83 @@
+// Reading one record of a network file into a draft.
+ghost use mathlib.Core.Path.{_≡_};
+ghost use Prim.Native.Nat.{_<_};
+ghost use lib.ListN.{length};
+ghost use Rattle.network.specs.Answers.{Gives};
+ghost use Rattle.netfile.specs.Checks.{due-fault, due-after};
+ghost use Rattle.netfile.specs.Loads.{Entered};
+use crate::due::Due;
+use crate::fault::file_fault;
+use crate::fault::met_at;
+use crate::record::Record;
+use crate::record::first_record;
+use network::Cause;
+use network::Draft;
+use network::Fault;
+
+// Reads the record that `rest`, which stands at `byte`, begins with; answers what is due behind it.
+pub(crate) fn read(draft: &mut Draft, rest: &[u8], byte: usize, due: Due) -> Result<Due, Fault>
+    requires { ⌜ 0 < length (now rest) ⌝ }
+    ensures { λ r. ⌜ Gives (due-fault (now (draft .entry) .figures .n) due byte (now (rest .entry)))
+        (λ next. (next ≡ due-after (now (draft .entry) .figures .n) due (now (rest .entry)))
+        × Entered (now (draft .entry) .figures) due (now (rest .entry)) (now (draft .exit) .figures)) (Unit {0}) r ⌝ }
+{
+    match due {
+        Due::Network => read_network(draft, rest, byte),
+        Due::Member(member) => read_member(draft, rest, byte, member),
+        Due::Claim(least) => read_claim(draft, rest, byte, least),
+        Due::Nothing => Err(file_fault(Cause::NotDue, byte)),
+    }
+}
+
+fn read_network(draft: &Draft, rest: &[u8], byte: usize) -> Result<Due, Fault>
+    ensures { λ r. ⌜ Gives (due-fault (now (draft .entry) .figures .n) Due.Network byte (now (rest .entry)))
+        (λ next. next ≡ Due.Member 0) (Unit {0}) r ⌝ }
+{
+    let Record::Network(body) = first_record(rest, byte, 1, 1)? else {
+        return Err(file_fault(Cause::NotDue, byte));
+    };
+    if body[0] != draft.count().get() {
+        return Err(file_fault(Cause::NotDue, byte));
+    }
+    Ok(Due::Member(0))
+}
+
+fn read_member(draft: &mut Draft, rest: &[u8], byte: usize, member: u8) -> Result<Due, Fault>
+    ensures { λ r. ⌜ Gives (due-fault (now (draft .entry) .figures .n) (Due.Member member) byte (now (rest .entry)))
+        (λ next. (next ≡ due-after (now (draft .entry) .figures .n) (Due.Member member) (now (rest .entry)))
+        × Entered (now (draft .entry) .figures) (Due.Member member) (now (rest .entry)) (now (draft .exit) .figures)) (Unit {0}) r ⌝ }
+{
+    let Record::Member(body) = first_record(rest, byte, 2, 2)? else {
+        return Err(file_fault(Cause::NotDue, byte));
+    };
+    if body[0] != member {
+        return Err(file_fault(Cause::NotDue, byte));
+    }
+    let endowment = u32::from_be_bytes([body[3], body[4], body[5], body[6]]);
+    met_at(
+        byte,
+        draft.enter_member(member, body[1], body[2], endowment),
+    )?;
+    if member + 1 < draft.count().get() {
+        Ok(Due::Member(member + 1))
+    } else {
+        Ok(Due::Claim(0))
+    }
+}
+
+fn read_claim(draft: &mut Draft, rest: &[u8], byte: usize, least: usize) -> Result<Due, Fault>
+    ensures { λ r. ⌜ Gives (due-fault (now (draft .entry) .figures .n) (Due.Claim least) byte (now (rest .entry)))
+        (λ next. (next ≡ due-after (now (draft .entry) .figures .n) (Due.Claim least) (now (rest .entry)))
+        × Entered (now (draft .entry) .figures) (Due.Claim least) (now (rest .entry)) (now (draft .exit) .figures)) (Unit {0}) r ⌝ }
+{
+    let Record::Claim(body) = first_record(rest, byte, 3, 4)? else {
+        return Ok(Due::Nothing);
+    };
+    let units = u32::from_be_bytes([body[2], body[3], body[4], body[5]]);
+    met_at(byte, draft.enter_claim(body[0], body[1], units))?;
+    let place = 32 * body[0] as usize + body[1] as usize;
+    if units == 0 || place < least {
+        return Err(file_fault(Cause::ClaimOrder, byte));
+    }
+    Ok(Due::Claim(place + 1))
+}
