@@ -1,8 +1,12 @@
 // What the engine reports of a network file: the lines of its settlement sheet, or why it was refused.
+mod clearance;
 mod line;
 mod statement;
 mod task_line;
 
+pub use clearance::LONGEST_INPUT;
+pub use clearance::Report;
+pub use clearance::clear;
 pub use line::Line;
 pub use line::LineDisplay;
 pub use line::print;
