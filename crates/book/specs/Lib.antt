@@ -4,3 +4,4 @@ pub mod Views
 pub mod Calls
 pub mod Rests
 pub mod Lives
+pub mod Sheets

@@ -2,6 +2,7 @@
 mod book;
 mod call;
 mod close;
+mod compare;
 mod lives;
 mod open;
 mod pay;
@@ -15,5 +16,6 @@ pub use book::Book;
 pub use call::Answer;
 pub use call::Call;
 pub use call::Task;
+pub use compare::equal_sheets;
 pub use lives::work_both;
 pub use sheet::Sheet;
