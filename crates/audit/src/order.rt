@@ -4,14 +4,24 @@ use book::Task;
 use std::alloc::AllocError;
 use std::alloc::Global;
 use std::alloc::Refused;
+use std::fmt;
 use std::str::SplitWhitespace;
 
 // Why an order is not read.
-#[derive(Debug, Drop)]
+#[derive(Drop)]
 pub enum OrderError {
     // the number of the line that is no call
     Line(usize),
     Memory,
+}
+
+pub impl fmt::Display for OrderError as OrderErrorDisplay {
+    fn fmt<W: fmt::Write>(&self, f: &mut fmt::Formatter<W>) -> fmt::Result {
+        match *self {
+            OrderError::Line(number) => write!(f, "line {number} is no call"),
+            OrderError::Memory => write!(f, "out of memory"),
+        }
+    }
 }
 
 impl From<AllocError> for OrderError as OrderErrorFromAlloc {
@@ -47,7 +57,11 @@ fn parse_call(line: &str) -> Option<Call> {
         "next" => Call::Next,
         _ => return None,
     };
-    if words.next().is_some() { None } else { Some(call) }
+    if words.next().is_some() {
+        None
+    } else {
+        Some(call)
+    }
 }
 
 fn without_comment(line: &str) -> &str {

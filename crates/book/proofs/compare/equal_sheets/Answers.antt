@@ -10,8 +10,7 @@ returns-then-not-equal-tables c = (λ e. absurd (both-ways false refl e), λ s. 
 pub returns-then-ne : need.returns-then-ne
 returns-then-ne c =
     let test = c .ne .ensures in
-    let equities = matches-decides (c .args .one .now .equities) (c .args .two .now .equities) (test .0) (test .1) in
-    (
+    let equities = matches-decides (c .args .one .now .equities) (c .args .two .now .equities) (test .0) (test .1) in (
       λ e. absurd (both-ways false refl e),
       λ s. absurd (both-ways (test .0) (not-true (test .0) (sym (test .2) ∙ c .if-ne .taken)) (equities .1 (s .equities))),
     )
@@ -20,8 +19,7 @@ pub returns : need.returns
 returns c =
     let test = c .ne .ensures in
     let equities = matches-decides (c .args .one .now .equities) (c .args .two .now .equities) (test .0) (test .1) in
-    let defaults = matches-decides (c .args .one .now .defaults) (c .args .two .now .defaults) (c .eq .result) (c .eq .ensures) in
-    (
+    let defaults = matches-decides (c .args .one .now .defaults) (c .args .two .now .defaults) (c .eq .result) (c .eq .ensures) in (
       λ e. record {
         payments = c .equal-tables .ensures .0 (c .if-not-equal-tables .left);
         equities = equities .0 (not-false (test .0) (sym (test .2) ∙ c .if-ne .left));

@@ -14,8 +14,7 @@ pub returns-then-ne : need.returns-then-ne
 returns-then-ne c =
     let i = c .loop-i .i in
     let test = c .ne .ensures in
-    let row = matches-decides (getD (c .args .one .now) i []) (getD (c .args .two .now) i []) (test .0) (test .1) in
-    (
+    let row = matches-decides (getD (c .args .one .now) i []) (getD (c .args .two .now) i []) (test .0) (test .1) in (
       λ e. absurd (both-ways false refl e),
       λ e. absurd (both-ways (test .0) (not-true (test .0) (sym (test .2) ∙ c .if-ne .taken)) (row .1 (ap (λ (t : List (List ℕ)). getD t i []) e))),
     )
