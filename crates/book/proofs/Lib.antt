@@ -6,3 +6,4 @@ pub mod Resting
 pub mod Outside
 pub mod Working
 pub mod Order
+pub mod Worked

@@ -192,6 +192,25 @@ module _ (A : Meaning) (law : LawfulMeaning A) (draft : Draft) where
         bounded = omega (arith, w .climb, paid-step M P Q (s .more), paid-cap M E rules Q (s .good), ap {B = ℕ} (λ t. cond t 1 0) moves);
       }
 
+-- what a life closes with
+pub record Outcome (A : Meaning) (draft : Draft) (S : Sheet) : Type 0 where
+  pub least : Least (network-of (draft .figures)) (division A (draft .figures)) (cells (S .paid))
+  pub within : Capped (network-of (draft .figures)) (cells (S .paid))
+  pub equities : (i : ℕ) → getD (S .equities) i 0 ≡ cash (network-of (draft .figures)) (cells (S .paid)) i
+  pub defaults : (i : ℕ) → getD (S .defaults) i false ≡ ltb (outlay (network-of (draft .figures)) (cells (S .paid)) i) (owed (network-of (draft .figures)) i)
+
+pub outcome : (A : Meaning) → LawfulMeaning A → (draft : Draft) (tasks : List Task) (S : Sheet) → Life A draft tasks S → Outcome A draft S
+outcome A law draft tasks S life =
+    let w = works-kept A law draft (life .works) (life .opens .figures) (opened-good A law draft (life .opened) (life .opens)) in
+    let e = w .figures in
+    let Q = cells (S .paid) in
+    record {
+      least = closed-kept A law draft (life .worked) S e (w .good) (life .ends) .least;
+      within = subst (λ (X : Figures). Capped (network-of X) Q) e (life .ends .within);
+      equities = λ i. life .ends .equities i ∙ ap (λ (X : Figures). cash (network-of X) Q i) e;
+      defaults = λ i. life .ends .defaults i ∙ ap (λ (X : Figures). ltb (outlay (network-of X) Q i) (owed (network-of X) i)) e;
+    }
+
 -- equal drafts are divided alike
 module _ (A : Meaning) (one two : Draft) (s : EqualDrafts one two) where
   same-claims : (i : ℕ) → i < one .figures .n → claims-on (one .figures) i ≡ claims-on (two .figures) i
@@ -233,40 +252,28 @@ order-decides-nothing A law draft draft′ s tasks tasks′ S S′ one two =
     let F′ = draft′ .figures in
     let N = network-of F in
     let N′ = network-of F′ in
-    let w = works-kept A law draft (one .works) (one .opens .figures) (opened-good A law draft (one .opened) (one .opens)) in
-    let w′ = works-kept A law draft′ (two .works) (two .opens .figures) (opened-good A law draft′ (two .opened) (two .opens)) in
-    let e = w .figures in
-    let e′ = w′ .figures in
-    let k = closed-kept A law draft (one .worked) S e (w .good) (one .ends) in
     let L = cells (S .paid) in
     let L′ = cells (S′ .paid) in
+    let end = outcome A law draft tasks S one in
+    let end′ = outcome A law draft′ tasks′ S′ two in
     let same = same-division A draft draft′ s in
-    let l′ = least-same N N′ (division A F) (division A F′) same L (k .least) in
-    let first = promised A law draft L (k .least) tasks S one in
-    let second = promised A law draft′ L l′ tasks′ S′ two in
+    let first = promised A law draft L (end .least) tasks S one in
+    let second = promised A law draft′ L (least-same N N′ (division A F) (division A F′) same L (end .least)) tasks′ S′ two in
     let like = alike-at N N′ (division A F) (division A F′) same L L L′ (first .ends) (second .ends) in
-    let capped : Capped N L = subst (λ (X : Figures). Capped (network-of X) L) e (one .ends .within) in
-    let capped′ : Capped N′ L′ = subst (λ (X : Figures). Capped (network-of X) L′) e′ (two .ends .within) in
-    let equity : (i : ℕ) → getD (S .equities) i 0 ≡ cash N L i = λ i. one .ends .equities i ∙ ap (λ (X : Figures). cash (network-of X) L i) e in
-    let equity′ : (i : ℕ) → getD (S′ .equities) i 0 ≡ cash N′ L′ i = λ i. two .ends .equities i ∙ ap (λ (X : Figures). cash (network-of X) L′ i) e′ in
-    let default : (i : ℕ) → getD (S .defaults) i false ≡ ltb (outlay N L i) (owed N i) =
-    λ i. one .ends .defaults i ∙ ap (λ (X : Figures). ltb (outlay (network-of X) L i) (owed (network-of X) i)) e in
-    let default′ : (i : ℕ) → getD (S′ .defaults) i false ≡ ltb (outlay N′ L′ i) (owed N′ i) =
-    λ i. two .ends .defaults i ∙ ap (λ (X : Figures). ltb (outlay (network-of X) L′ i) (owed (network-of X) i)) e′ in
     record {
       least = L;
       first = first;
       second = second;
       equal = record {
-        payments = everywhere A draft draft′ s L L′ capped capped′ (like .payments);
-        equities = λ i. elim (cases-lt i (F .n)) [
-          | inl a ↦ equity i ∙ like .equities i a ∙ sym (equity′ i)
-          | inr a ↦ equity i ∙ cash-past F L i a capped ∙ sym (cash-past F′ L′ i (omega (arith, s .members)) capped′) ∙ sym (equity′ i)
-        ];
-        defaults = λ i. elim (cases-lt i (F .n)) [
-          | inl a ↦ default i ∙ like .defaults i a ∙ sym (default′ i)
-          | inr a ↦ default i ∙ default-past F L i a ∙ sym (default-past F′ L′ i (omega (arith, s .members))) ∙ sym (default′ i)
-        ];
+        payments = everywhere A draft draft′ s L L′ (end .within) (end′ .within) (like .payments);
+        equities = λ i. end .equities i ∙ elim (cases-lt i (F .n)) [
+          | inl a ↦ like .equities i a
+          | inr a ↦ cash-past F L i a (end .within) ∙ sym (cash-past F′ L′ i (omega (arith, s .members)) (end′ .within))
+        ] ∙ sym (end′ .equities i);
+        defaults = λ i. end .defaults i ∙ elim (cases-lt i (F .n)) [
+          | inl a ↦ like .defaults i a
+          | inr a ↦ default-past F L i a ∙ sym (default-past F′ L′ i (omega (arith, s .members)))
+        ] ∙ sym (end′ .defaults i);
       };
     }
 

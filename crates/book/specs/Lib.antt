@@ -5,3 +5,4 @@ pub mod Calls
 pub mod Rests
 pub mod Lives
 pub mod Sheets
+pub mod Examples
