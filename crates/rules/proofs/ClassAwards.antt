@@ -10,15 +10,15 @@ use lib.ListN.{length, getD}
 use Rattle.std.specs.shelf.Lists.{sum}
 use Rattle.std.proofs.shelf.Lists.{ext-getD}
 use Rattle.std.proofs.shelf.Sums.{getD-le-sumBy}
-use Rattle.std.proofs.shelf.Tests.{cond-true, cond-false, lt-ltb, le-ltb, eq-eqb, ne-eqb, cases-eq, cases-lt}
+use Rattle.std.proofs.shelf.Tests.{cond-true, lt-ltb, le-ltb, ne-eqb, cases-eq}
 use Rattle.std.proofs.shelf.Ways.{tells}
 use Rattle.rules.specs.Claims.{Admitted}
 use Rattle.rules.specs.Classes.{of-class, class-part, by-class}
-use Rattle.rules.specs.InTurn.{Part, joined, earlier, share, in-turn, Splits}
+use Rattle.rules.specs.InTurn.{Part, joined, earlier, share, in-turn}
 use Rattle.rules.specs.Laws.{Rule, Lawful}
 use Rattle.rules.specs.Places.{each}
 use Rattle.rules.specs.Theorems.{lower-claim, lower-claims, class-share, ByClass}
-use Rattle.rules.proofs.ClassLaws.{length-of-class, getD-of-class, length-joined, getD-joined, class-splits}
+use Rattle.rules.proofs.ClassLaws.{getD-of-class, length-joined, getD-joined, class-splits}
 use Rattle.rules.proofs.DualAwards.{paid-in-full}
 use Rattle.rules.proofs.InTurnLaws.{earlier-is, earlier-grows, portion-admitted}
 use Rattle.rules.proofs.Lists.{length-each, getD-each, getD-plus, getD-zeros}

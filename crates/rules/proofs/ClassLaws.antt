@@ -1,10 +1,10 @@
 -- The claims by class are a split of the claims, so classes over a lawful rule are lawful.
 use mathlib.Core.List.{List}
 use mathlib.Core.Logic.{⊎-elim}
-use mathlib.Core.Path.{_≡_, refl, sym, _∙_}
+use mathlib.Core.Path.{_≡_, sym, _∙_}
 use Prim.Native.Nat.{ℕ, zero, suc, _≤_}
 use native.Mathlib.Omega.{arith}
-use lib.Dec.{eqb, ltb}
+use lib.Dec.{ltb}
 use lib.ListN.{length, getD, length-replicate}
 use Rattle.std.proofs.shelf.Lists.{ext-getD, getD-past}
 use Rattle.std.proofs.shelf.Tests.{cond-true, lt-ltb, le-ltb, cases-lt}

@@ -2,7 +2,6 @@
 use mathlib.Core.List.{List}
 use mathlib.Core.Path.{_≡_, refl, sym, ap, _∙_}
 use Prim.Native.Nat.{ℕ, suc, min, _+_, _<_, _≤_}
-use native.Mathlib.Numerals.{add-one}
 use native.Mathlib.Omega.{arith}
 use lib.ListN.{length, getD, set}
 use Rattle.std.specs.declared.option.Option.{Option}
@@ -10,7 +9,7 @@ use Rattle.std.specs.declared.option.Option.the-variants.{Some, None}
 use Rattle.std.specs.shelf.Lists.{sum}
 use Rattle.rules.specs.Standards.{Scoring}
 use Rattle.rules.specs.Theorems.{UnitByUnit}
-use Rattle.rules.specs.Unit.{First, raised, dealt, unit-rule}
+use Rattle.rules.specs.Unit.{First, raised, dealt}
 use Rattle.rules.proofs.Exchange.{same-by-sum}
 use Rattle.rules.proofs.Lists.{sum-le}
 use Rattle.rules.proofs.Picks.{FirstOf, first-among-all}

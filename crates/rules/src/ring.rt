@@ -1,5 +1,4 @@
 // The ring's rulebook: which rule each house has.
-ghost use mathlib.Core.Path.{_≡_};
 ghost use Rattle.rules.specs.Classes.{classes-of};
 ghost use Rattle.rules.specs.Ring.{ring-rule, RingRules, RingApart};
 use crate::choice::Choice;

@@ -1,7 +1,7 @@
 // The unit rule: one unit at a time, each to the highest score.
 ghost use mathlib.Core.Path.{_≡_};
 ghost use Prim.Native.Nat.{_<_, _≤_};
-ghost use lib.ListN.{length, getD};
+ghost use lib.ListN.{length};
 ghost use Rattle.std.specs.Options.{Cases as BySome};
 ghost use Rattle.rules.specs.Claims.{Admitted};
 ghost use Rattle.rules.specs.Theorems.{Only, NeverRises, Foremost, UnitByUnit};
