@@ -1,9 +1,6 @@
 // The shipped rules on examples.
 use crate::division::check_divisions;
 use crate::division::draft_of;
-use network::Cause;
-use network::CauseDebug;
-use network::CausePartialEq;
 use network::FaultDebug;
 use rules::Dual;
 use rules::DualRulebook;
@@ -62,15 +59,18 @@ fn every_house_of_the_ring() -> Result<(), Fail> {
     check_divisions(&ring_rulebook(draft.figures()), &divisions)
 }
 
+// The number of the cause for which a list is refused, and the creditor named.
+fn refusal(claims: &[u32], room: usize) -> Option<(u8, u8)> {
+    match check_claims(claims, room) {
+        Ok(()) => None,
+        Err(fault) => Some((fault.cause.number(), fault.creditor)),
+    }
+}
+
 #[test]
-fn what_cannot_be_divided_is_refused() -> Result<(), Fail> {
-    let Err(long) = check_claims(&[0; 33], 33) else {
-        return Err(Fail::new("33 claims"));
-    };
-    check_eq(long.cause, Cause::ListLength)?;
-    let Err(large) = check_claims(&[10_000, 10_001, 10_001], 3) else {
-        return Err(Fail::new("a claim of 10,001"));
-    };
-    check_eq(large.cause, Cause::ListedClaimTooLarge)?;
-    check_eq(large.creditor, 1)
+fn refusals() -> Result<(), Fail> {
+    check_eq(refusal(&[10_000; 32], 32), None)?;
+    check_eq(refusal(&[0; 33], 33), Some((10, 255)))?;
+    check_eq(refusal(&[0; 2], 3), Some((10, 255)))?;
+    check_eq(refusal(&[10_000, 10_001, 10_001], 3), Some((11, 1)))
 }
