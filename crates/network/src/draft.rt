@@ -69,14 +69,12 @@ impl Draft {
         if endowment > 1_000_000 {
             return Err(Fault::of_member(Layer::Draft, Cause::EndowmentTooLarge, member));
         }
-        self.figures.set_member(
-            member,
-            Member {
-                house,
-                class,
-                endowment,
-            },
-        );
+        let entry = Member {
+            house,
+            class,
+            endowment,
+        };
+        self.figures.set_member(member, entry);
         Ok(())
     }
 

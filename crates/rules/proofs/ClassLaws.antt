@@ -1,11 +1,10 @@
 -- The claims by class are a split of the claims, so classes over a lawful rule are lawful.
-use mathlib.Core.Bool.{cond}
 use mathlib.Core.List.{List}
 use mathlib.Core.Logic.{⊎-elim}
-use mathlib.Core.Path.{_≡_, refl, sym, _∙_}
+use mathlib.Core.Path.{_≡_, sym, _∙_}
 use Prim.Native.Nat.{ℕ, zero, suc, _≤_}
 use native.Mathlib.Omega.{arith}
-use lib.Dec.{eqb, ltb}
+use lib.Dec.{ltb}
 use lib.ListN.{length, getD, length-replicate}
 use Rattle.std.proofs.shelf.Lists.{ext-getD, getD-past}
 use Rattle.std.proofs.shelf.Tests.{cond-true, lt-ltb, le-ltb, cases-lt}
@@ -13,6 +12,7 @@ use Rattle.std.proofs.shelf.Ways.{tells}
 use Rattle.rules.specs.Classes.{class-claim, of-class, class-part, by-class}
 use Rattle.rules.specs.InTurn.{joined, Splits}
 use Rattle.rules.specs.Laws.{Rule, Lawful}
+use Rattle.rules.specs.Theorems.{lower-claim}
 use Rattle.rules.proofs.InTurnLaws.{in-turn-laws}
 use Rattle.rules.proofs.Lists.{length-each, getD-each, length-plus, getD-plus, getD-zeros}
 
@@ -30,12 +30,12 @@ getD-of-class ts t cs k =
     (cases-lt k (length cs))
 
 module _ (ts : List ℕ) (f : Rule) (cs : List ℕ) where
-  length-joined : (n : ℕ) → length (joined (class-part ts f) n cs) ≡ length cs
+  pub length-joined : (n : ℕ) → length (joined (class-part ts f) n cs) ≡ length cs
   length-joined zero = length-replicate (length cs) 0
   length-joined (suc n) = length-plus (joined (class-part ts f) n cs) (of-class ts n cs) (length-joined n ∙ sym (length-of-class ts n cs)) ∙ length-joined n
 
   -- the claims of the classes below n
-  getD-joined : (n k : ℕ) → getD (joined (class-part ts f) n cs) k 0 ≡ cond (ltb (getD ts k 0) n) (getD cs k 0) 0
+  pub getD-joined : (n k : ℕ) → getD (joined (class-part ts f) n cs) k 0 ≡ lower-claim ts n cs k
   getD-joined zero k = rw (le-ltb (getD ts k 0) 0 (omega arith)) (getD-zeros (length cs) k)
   getD-joined (suc n) k =
       let both = getD-plus (joined (class-part ts f) n cs) (of-class ts n cs) k in

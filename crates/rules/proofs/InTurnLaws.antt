@@ -23,9 +23,13 @@ module _ (p : ℕ → Part) (cs : List ℕ) where
       (λ ne. omega (arith, joined-grows m n k (omega arith), getD-plus (joined p n cs) (p n .portion cs) k))
       (cases-eq m (suc n))
 
-  earlier-is : (n : ℕ) → earlier p n cs ≡ sum (joined p n cs)
+  pub earlier-is : (n : ℕ) → earlier p n cs ≡ sum (joined p n cs)
   earlier-is zero = omega (arith, sum-zeros (length cs))
   earlier-is (suc n) = omega (arith, earlier-is n, sum-plus (joined p n cs) (p n .portion cs))
+
+  pub earlier-grows : (m n : ℕ) → m ≤ n → earlier p m cs ≤ earlier p n cs
+  earlier-grows m zero le = let is : m ≡ 0 = omega arith in rw is (omega arith)
+  earlier-grows m (suc n) le = ⊎-elim (λ is. rw is (omega arith)) (λ ne. omega (arith, earlier-grows m n (omega arith))) (cases-eq m (suc n))
 
 module _ (p : ℕ → Part) (all : ℕ) (s : Splits p all) (cs : List ℕ) (ok : Admitted cs) where
   joined-within : (n k : ℕ) → n ≤ all → getD (joined p n cs) k 0 ≤ getD cs k 0

@@ -9,3 +9,10 @@ pub mod ClassLaws
 pub mod DualLaws
 pub mod ChoiceLaws
 pub mod StandardScores
+pub mod Exchange
+pub mod OrderlyAwards
+pub mod ForemostAwards
+pub mod UnitSteps
+pub mod StandardAwards
+pub mod DualAwards
+pub mod ClassAwards

@@ -28,12 +28,18 @@ first-total e cs (suc n) le =
 award-past : (e : ℕ) (cs : List ℕ) (k : ℕ) → length cs ≤ k → getD (priority e cs) k 0 ≡ 0
 award-past e cs k past = getD-past (priority e cs) k 0 (omega (arith, length-each cs (priority-award e cs)))
 
+pub priority-within : (e : ℕ) (cs : List ℕ) (k : ℕ) → getD (priority e cs) k 0 ≤ getD cs k 0
+priority-within e cs k =
+    ⊎-elim
+    (λ lt. omega (arith, getD-each cs (priority-award e cs) k lt))
+    (λ past. omega (arith, award-past e cs k past))
+    (cases-lt k (length cs))
+
 pub priority-laws : Lawful priority
 priority-laws = record {
   count = λ e cs ok. length-each cs (priority-award e cs);
   total = λ e cs ok. first-total e cs (length cs) (omega arith) ∙ ap (λ xs. min e (sum xs)) (take-all (length cs) cs (omega arith));
-  within = λ e cs ok k.
-      ⊎-elim (λ lt. omega (arith, getD-each cs (priority-award e cs) k lt)) (λ past. omega (arith, award-past e cs k past)) (cases-lt k (length cs));
+  within = λ e cs ok. priority-within e cs;
   grows = λ e more cs ok le k.
       ⊎-elim
       (λ lt. omega (arith, getD-each cs (priority-award e cs) k lt, getD-each cs (priority-award more cs) k lt))

@@ -10,3 +10,4 @@ pub mod Dual
 pub mod Choice
 pub mod Theorems
 pub mod Ring
+pub mod Examples

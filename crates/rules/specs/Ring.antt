@@ -29,7 +29,7 @@ pub record RingRules (rules : ℕ → Rule) (ts : List ℕ) : Type 0 where
   pub others : (h : ℕ) → rules (4 + h) ≡ by-class ts jefferson
 
 -- what sets each of these rules apart
-pub record RingWords (rules : ℕ → Rule) (ts : List ℕ) : Type 0 where
+pub record RingApart (rules : ℕ → Rule) (ts : List ℕ) : Type 0 where
   pub house-0 : Only (rules 0) InOrder
   pub house-1 : Only (rules 1) Level
   pub house-2 : Only (rules 2) Proportionate

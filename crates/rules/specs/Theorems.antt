@@ -40,8 +40,8 @@ Level cs hs =
 abbrev pub LevelLosses : List ℕ → List ℕ → Type 0
 LevelLosses cs hs = Level cs (minus cs hs)
 
--- the divisor inequality: nobody holds so much for its claim that a creditor short of its claim, with one unit
--- more, would still hold less for its own; nor, where that one has a lower number, just as much
+-- the divisor inequality: nobody holds more for its claim than a creditor short of its claim would hold with one unit
+-- more, nor as much as a lower-numbered one would
 abbrev pub Proportionate : List ℕ → List ℕ → Type 0
 Proportionate cs hs =
     (i j : ℕ) → 0 < getD hs i 0 → getD hs j 0 < getD cs j 0 →
@@ -75,13 +75,17 @@ pub record DualOf (f : Rule) : Type 0 where
   -- the dual of the dual is the rule itself
   pub twice : (e : ℕ) (cs : List ℕ) → Admitted cs → dual (dual f) e cs ≡ f e cs
 
+-- creditor k's claim, if its class is below t
+abbrev pub lower-claim : List ℕ → ℕ → List ℕ → ℕ → ℕ
+lower-claim ts t cs k = cond (ltb (getD ts k 0) t) (getD cs k 0) 0
+
 -- the claims total of the classes below t
 abbrev pub lower-claims : List ℕ → ℕ → List ℕ → ℕ
-lower-claims ts t cs = sum (each cs (λ k. cond (ltb (getD ts k 0) t) (getD cs k 0) 0))
+lower-claims ts t cs = sum (each cs (lower-claim ts t cs))
 
--- what class t is served: the lesser of its claims total and what the estate leaves after the claims of lower classes
+-- what class t is served: the lesser of what the estate leaves after the claims of lower classes and its claims total
 abbrev pub class-share : List ℕ → ℕ → ℕ → List ℕ → ℕ
-class-share ts t e cs = min (sum (of-class ts t cs)) (e - lower-claims ts t cs)
+class-share ts t e cs = min (e - lower-claims ts t cs) (sum (of-class ts t cs))
 
 pub record ByClass (ts : List ℕ) (f : Rule) : Type 0 where
   -- a creditor gets what f awards it from its class's share, over the claims of its class

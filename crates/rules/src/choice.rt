@@ -8,8 +8,16 @@ use network::Fault;
 // choices gives each house a rulebook of its own, and the last one serves all that are left.
 #[derive(Clone, Copy)]
 pub struct Choice<P, Q> {
-    pub first: P,
-    pub second: Q,
+    first: P,
+    second: Q,
+}
+
+impl<P: Rulebook, Q: Rulebook> Choice<P, Q> {
+    pub fn new(first: P, second: Q) -> Choice<P, Q>
+        ensures { λ r. ⌜ (r .first ≡ first) × (r .second ≡ second) ⌝ }
+    {
+        Choice { first, second }
+    }
 }
 
 pub impl<P: Rulebook, Q: Rulebook> Rulebook for Choice<P, Q> as ChoiceRulebook {

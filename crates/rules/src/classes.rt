@@ -1,8 +1,10 @@
 // Classes: the creditors of a lower class are served before those of a higher one.
 ghost use mathlib.Core.Path.{_≡_};
+ghost use Prim.Native.Nat.{ℕ};
 ghost use lib.ListN.{length};
 ghost use Rattle.rules.specs.Claims.{Admitted};
 ghost use Rattle.rules.specs.Classes.{by-class};
+ghost use Rattle.rules.specs.Theorems.{ByClass};
 use crate::class_table::ClassTable;
 use crate::in_turn::serve;
 use crate::rulebook::Rulebook;
@@ -16,11 +18,18 @@ const CLASSES: u8 = 8;
 // the rulebook below divides what a class is served over its own claims.
 #[derive(Clone, Copy)]
 pub struct Classes<R> {
-    pub below: R,
-    pub table: ClassTable,
+    below: R,
+    table: ClassTable,
 }
 
 impl<R: Rulebook> Classes<R> {
+    pub fn new(below: R, table: ClassTable) -> Classes<R>
+        ensures made { λ r. ⌜ (r .below ≡ below) × (r .table ≡ table) ⌝ }
+        ensures apart { λ _. ⌜ ((house : ℕ) → ByClass (table .classes) (R·Rulebook .awarded below house)) ⌝ }
+    {
+        Classes { below, table }
+    }
+
     fn serve_classes(
         &self,
         house: u8,

@@ -4,6 +4,7 @@ ghost use Prim.Native.Nat.{ℕ, _≤_};
 ghost use lib.ListN.{length, getD};
 ghost use Rattle.rules.specs.Dual.{dual};
 ghost use Rattle.rules.specs.Places.{minus};
+ghost use Rattle.rules.specs.Theorems.{DualOf};
 use crate::claims::claims_total;
 use crate::rulebook::Rulebook;
 use crate::rulebook::check_claims;
@@ -13,7 +14,16 @@ use network::Fault;
 // the estate lacks to meet all claims.
 #[derive(Clone, Copy)]
 pub struct Dual<R> {
-    pub below: R,
+    below: R,
+}
+
+impl<R: Rulebook> Dual<R> {
+    pub fn new(below: R) -> Dual<R>
+        ensures made { λ r. ⌜ r .below ≡ below ⌝ }
+        ensures losses { λ _. ⌜ ((house : ℕ) → DualOf (R·Rulebook .awarded below house)) ⌝ }
+    {
+        Dual { below }
+    }
 }
 
 // Turns what each creditor goes without into what it gets.

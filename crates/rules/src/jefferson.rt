@@ -1,5 +1,4 @@
 // The standard of Jefferson's divisor method.
-ghost use mathlib.Core.Path.{_≡_};
 ghost use Rattle.rules.specs.Standards.{jefferson-score};
 use crate::standard::Standard;
 use crate::standard::out_of_reach;

@@ -1,7 +1,6 @@
 // The ring's rulebook: which rule each house has.
-ghost use mathlib.Core.Path.{_≡_};
 ghost use Rattle.rules.specs.Classes.{classes-of};
-ghost use Rattle.rules.specs.Ring.{ring-rule, RingRules};
+ghost use Rattle.rules.specs.Ring.{ring-rule, RingRules, RingApart};
 use crate::choice::Choice;
 use crate::choice::ChoiceRulebook;
 use crate::class_table::ClassTable;
@@ -42,32 +41,19 @@ pub struct RingRulebook {
 
 // The ring's rulebook for a network, whose members' classes it takes.
 pub fn ring_rulebook(figures: &Figures) -> RingRulebook
-    ensures { λ r. ⌜ RingRules (ring-rule r) (classes-of (now (figures .entry))) ⌝ }
+    ensures rules { λ r. ⌜ RingRules (ring-rule r) (classes-of (now (figures .entry))) ⌝ }
+    ensures apart { λ r. ⌜ RingApart (ring-rule r) (classes-of (now (figures .entry))) ⌝ }
 {
-    let equal_awards = UnitRule {
-        standard: EqualAwards,
-    };
-    let jefferson = UnitRule {
-        standard: Jefferson,
-    };
-    let houses = Choice {
-        first: Priority,
-        second: Choice {
-            first: equal_awards,
-            second: Choice {
-                first: jefferson,
-                second: Choice {
-                    first: Dual {
-                        below: equal_awards,
-                    },
-                    second: Classes {
-                        below: jefferson,
-                        table: ClassTable::of(figures),
-                    },
-                },
-            },
-        },
-    };
+    let equal_awards = UnitRule::new(EqualAwards);
+    let jefferson = UnitRule::new(Jefferson);
+    let classes = Classes::new(jefferson, ClassTable::of(figures));
+    let houses = Choice::new(
+        Priority,
+        Choice::new(
+            equal_awards,
+            Choice::new(jefferson, Choice::new(Dual::new(equal_awards), classes)),
+        ),
+    );
     RingRulebook { houses }
 }
 

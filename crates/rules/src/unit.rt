@@ -1,9 +1,10 @@
 // The unit rule: one unit at a time, each to the highest score.
 ghost use mathlib.Core.Path.{_≡_};
 ghost use Prim.Native.Nat.{_<_, _≤_};
-ghost use lib.ListN.{length, getD};
+ghost use lib.ListN.{length};
 ghost use Rattle.std.specs.Options.{Cases as BySome};
 ghost use Rattle.rules.specs.Claims.{Admitted};
+ghost use Rattle.rules.specs.Theorems.{Only, NeverRises, Foremost, UnitByUnit};
 ghost use Rattle.rules.specs.Unit.{First, above, contended, picked, dealt, unit-rule};
 use crate::claims::claims_total;
 use crate::rulebook::Rulebook;
@@ -15,7 +16,17 @@ use network::Fault;
 // among those that hold less than their claim, and to the lowest-numbered of equals.
 #[derive(Clone, Copy)]
 pub struct UnitRule<S> {
-    pub standard: S,
+    standard: S,
+}
+
+impl<S: Standard> UnitRule<S> {
+    pub fn new(standard: S) -> UnitRule<S>
+        ensures made { λ r. ⌜ r .standard ≡ standard ⌝ }
+        ensures steps { λ _. ⌜ UnitByUnit (S·Standard .scored standard) ⌝ }
+        ensures apart { λ _. ⌜ (NeverRises (S·Standard .scored standard) → Only (unit-rule (S·Standard .scored standard)) (Foremost (S·Standard .scored standard))) ⌝ }
+    {
+        UnitRule { standard }
+    }
 }
 
 // Whether p is the higher fraction.

@@ -4,7 +4,6 @@ use mathlib.Core.Path.{_≡_, sym, _∙_}
 use Prim.Native.Nat.{ℕ, _-_, _<_, _≤_}
 use native.Mathlib.Omega.{arith}
 use borrow.Author.Count.{below-more}
-use borrow.Author.Needs.{needs}
 use lib.ListN.{length, getD}
 use Rattle.std.proofs.shelf.Lists.{ext-getD, getD-set-same, getD-set-other}
 use Rattle.rules.specs.Places.{minus}
