@@ -23,6 +23,8 @@ pub struct Classes<R> {
 }
 
 impl<R: Rulebook> Classes<R> {
+    // What a creditor gets hangs on the claims of its own class and on the claims total of the lower ones,
+    // and whoever gets a unit sees all lower classes paid in full.
     pub fn new(below: R, table: ClassTable) -> Classes<R>
         ensures made { λ r. ⌜ (r .below ≡ below) × (r .table ≡ table) ⌝ }
         ensures apart { λ _. ⌜ ((house : ℕ) → ByClass (table .classes) (R·Rulebook .awarded below house)) ⌝ }
@@ -30,6 +32,7 @@ impl<R: Rulebook> Classes<R> {
         Classes { below, table }
     }
 
+    // Serves class after class, with room for the claims of a class and for what it is awarded.
     fn serve_classes(
         &self,
         house: u8,

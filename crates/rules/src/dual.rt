@@ -18,6 +18,8 @@ pub struct Dual<R> {
 }
 
 impl<R: Rulebook> Dual<R> {
+    // The creditors go without what the rulebook below awards from the shortfall, and the dual of the dual
+    // is that rulebook again.
     pub fn new(below: R) -> Dual<R>
         ensures made { λ r. ⌜ r .below ≡ below ⌝ }
         ensures losses { λ _. ⌜ ((house : ℕ) → DualOf (R·Rulebook .awarded below house)) ⌝ }

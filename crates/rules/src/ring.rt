@@ -39,7 +39,8 @@ pub struct RingRulebook {
     houses: Houses,
 }
 
-// The ring's rulebook for a network, whose members' classes it takes.
+// The ring's rulebook for a network, whose members' classes it takes, with what sets each house's rule
+// apart from all other divisions.
 pub fn ring_rulebook(figures: &Figures) -> RingRulebook
     ensures rules { λ r. ⌜ RingRules (ring-rule r) (classes-of (now (figures .entry))) ⌝ }
     ensures apart { λ r. ⌜ RingApart (ring-rule r) (classes-of (now (figures .entry))) ⌝ }

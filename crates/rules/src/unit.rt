@@ -20,6 +20,9 @@ pub struct UnitRule<S> {
 }
 
 impl<S: Standard> UnitRule<S> {
+    // With each unit that the estate grows, the creditor with the best right to it gets one more. Where
+    // scores never rise with the units held, the awards are the only division in which no unit that is
+    // still wanted has a better right than one that is held.
     pub fn new(standard: S) -> UnitRule<S>
         ensures made { λ r. ⌜ r .standard ≡ standard ⌝ }
         ensures steps { λ _. ⌜ UnitByUnit (S·Standard .scored standard) ⌝ }
