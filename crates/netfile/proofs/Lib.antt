@@ -5,3 +5,6 @@ pub mod Bytes
 pub mod Runs
 pub mod Claims
 pub mod Steps
+pub mod Walks
+pub mod Reaches
+pub mod Unique
