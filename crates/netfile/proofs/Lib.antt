@@ -8,3 +8,4 @@ pub mod Steps
 pub mod Walks
 pub mod Reaches
 pub mod Unique
+pub mod RoundTrips

@@ -3,3 +3,4 @@ pub mod Files
 pub mod Checks
 pub mod Loads
 pub mod Writes
+pub mod RoundTrips
