@@ -4,7 +4,6 @@ use mathlib.Core.List.{List, [], _∷_, _++_}
 use mathlib.Core.Logic.{_⊎_, inl, inr, ⊎-elim, _≢_}
 use mathlib.Core.Bool.{Bool, true, false, cond, not, _||_}
 use Prim.Native.Nat.{ℕ, zero, suc, _+_, _-_, _*_, _/_, _%_, _<_, _≤_}
-use native.Mathlib.Nat.{zero-add}
 use native.Mathlib.Numerals.{add-one}
 use native.Mathlib.Omega.{arith}
 use lib.ListN.{length, getD, take, drop}
@@ -25,9 +24,8 @@ use Rattle.netfile.specs.Records.{file-fault, kind, outside, record-length, re
 use Rattle.netfile.specs.Files.{run, four-bytes, number-at, claim-of, network-record, member-record, member-bytes, claim-bytes, claim-record, members-to, claims-to, end-record, file-of}
 use Rattle.netfile.specs.Checks.{draft-or, place-of, due-fault, due-after}
 use Rattle.netfile.proofs.Bytes.{number-of-bytes}
-use Rattle.netfile.proofs.Claims.{claim-none, claim-some}
+use Rattle.netfile.proofs.Files.{members-more, claims-more, claims-skip}
 use Rattle.netfile.proofs.Passing.{positive}
-use Rattle.netfile.proofs.Runs.{run-more, run-skip}
 use Rattle.netfile.proofs.Walks.{Walked, walk-starts, walk-on, spot, past, written}
 
 -- the checks of a record that is whole and due
@@ -180,62 +178,76 @@ module _ (s : List ℕ) (f : Figures) where
     no-more = at .no-more;
   }
 
+  -- a place that has no claim
+  at-none : (d : Due) (b i p : ℕ) → claim-of f p ≡ 0 → At s f d b i p → At s f d b i (suc p)
+  at-none d b i p none at = record {
+    members = at .members;
+    claims = at .claims;
+    walked = at .walked;
+    members-are = at .members-are;
+    claims-are = λ q a. ⊎-elim
+        (λ (y : q ≡ p). ap (at .claims) y ∙ (at .no-more p (omega arith) ∙ sym (ap (claim-of f) y ∙ none)))
+        (λ (y : q ≡ p → ⊥). at .claims-are q (omega arith))
+        (cases-eq q p);
+    no-more = λ q a. at .no-more q (omega arith);
+  }
+
+  -- behind X, where s goes on with Y
+  goes-on : (X Y R : List ℕ) → s ≡ (X ++ Y) ++ R → s ≡ X ++ (Y ++ R)
+  goes-on X Y R e = e ∙ append-assoc X Y R
+
+  stands-at : (X R : List ℕ) → s ≡ X ++ R → drop (length X) s ≡ R
+  stands-at X R e = ap (drop (length X)) e ∙ drop-at X R (length X) refl
+
   pub at-members : (k : ℕ) → k ≤ f .n → (R : List ℕ) → s ≡ members-to f k ++ R → At s f (member-due (f .n) k) (length (members-to f k)) k 0
   unfolding run
   at-members zero h R e = moved (at-network R e) (sym (cond-true _ _ _ (lt-ltb 0 (f .n) (omega (arith, f .some))))) refl refl refl
   at-members (suc k) h R e =
-      let more : members-to f (suc k) ≡ members-to f k ++ member-bytes f k =
-      ap (members-to f) (sym (add-one k)) ∙ (ap (λ r. network-record (f .n) ++ r) (run-more (member-bytes f) 0 k ∙ ap (λ z. run (member-bytes f) 0 k ++ member-bytes f z) (zero-add k))
-      ∙ sym (append-assoc (network-record (f .n)) (run (member-bytes f) 0 k) (member-bytes f k))) in
-      let e′ : s ≡ members-to f k ++ (member-bytes f k ++ R) = e ∙ (ap (λ z. z ++ R) more ∙ append-assoc (members-to f k) (member-bytes f k) R) in
-      let here = moved (at-members k (omega arith) (member-bytes f k ++ R) e′) (cond-true _ _ _ (lt-ltb k (f .n) (omega arith))) refl refl refl in
-      let rest : drop (length (members-to f k)) s ≡ member-bytes f k ++ R = ap (drop (length (members-to f k))) e′ ∙ drop-at (members-to f k) _ _ refl in
-      let long : length (members-to f k) + 8 ≡ length (members-to f (suc k)) = sym (ap length more ∙ length-append (members-to f k) (member-bytes f k)) in
-      moved (at-member k (length (members-to f k)) R (omega arith) rest here)
-      (ap (member-due (f .n)) (add-one k)) long (add-one k) refl
+      let X = members-to f k in
+      let Y = member-bytes f k in
+      let more : members-to f (suc k) ≡ X ++ Y = ap (members-to f) (sym (add-one k)) ∙ members-more f k in
+      let on = goes-on X Y R (e ∙ ap (λ z. z ++ R) more) in
+      let due = cond-true (ltb k (f .n)) (Member k) (Claim 0) (lt-ltb k (f .n) (omega arith)) in
+      let here = moved (at-members k (omega arith) (Y ++ R) on) due refl refl refl in
+      let long : length X + 8 ≡ length (members-to f (suc k)) = sym (ap length more ∙ length-append X Y) in
+      moved (at-member k (length X) R (omega arith) (stands-at X (Y ++ R) on) here) (ap (member-due (f .n)) (add-one k)) long (add-one k) refl
 
-  pub at-claims : (p : ℕ) → (R : List ℕ) → s ≡ claims-to f p ++ R → At s f (Claim (seen f p)) (length (claims-to f p)) (f .n) p
-  unfolding run
-  at-claims zero R e =
-      let none : claims-to f 0 ≡ members-to f (f .n) = append-nil (members-to f (f .n)) in
-      moved (at-members (f .n) (omega arith) R (e ∙ ap (λ z. z ++ R) none))
-      (cond-false _ _ _ (le-ltb (f .n) (f .n) (omega arith))) (ap length (sym none)) refl refl
-  at-claims (suc p) R e =
-      ⊎-elim
-      (λ (z : claim-of f p ≡ 0).
-      let same : claims-to f (suc p) ≡ claims-to f p =
-      ap (claims-to f) (sym (add-one p)) ∙ ap (λ r. members-to f (f .n) ++ r) (run-skip (claim-bytes f) p (claim-none f p (omega arith))) in
-      let at = at-claims p R (e ∙ ap (λ z. z ++ R) same) in
-      let on : At s f (Claim (seen f p)) (length (claims-to f p)) (f .n) (suc p) = record {
-        members = at .members;
-        claims = at .claims;
-        walked = at .walked;
-        members-are = at .members-are;
-        claims-are = λ q a. ⊎-elim
-            (λ (y : q ≡ p). ap (at .claims) y ∙ (at .no-more p (omega arith) ∙ sym (ap (claim-of f) y ∙ z)))
-            (λ (y : q ≡ p → ⊥). at .claims-are q (omega arith))
-            (cases-eq q p);
-        no-more = λ q a. at .no-more q (omega arith);
-      } in
-      moved on (ap Claim (sym (cond-true _ _ _ (eq-eqb (claim-of f p) 0 z)))) (ap length (sym same)) refl refl)
-      (λ (z : claim-of f p ≡ 0 → ⊥).
+  abbrev Claimed : ℕ → Type 0
+  Claimed p = (R : List ℕ) → s ≡ claims-to f p ++ R → At s f (Claim (seen f p)) (length (claims-to f p)) (f .n) p
+
+  at-skip : (p : ℕ) → claim-of f p ≡ 0 → Claimed p → Claimed (suc p)
+  at-skip p z before R e =
+      let same : claims-to f (suc p) ≡ claims-to f p = ap (claims-to f) (sym (add-one p)) ∙ claims-skip f p (omega arith) in
+      let here = before R (e ∙ ap (λ z. z ++ R) same) in
+      let due = sym (cond-true (eqb (claim-of f p) 0) (seen f p) (suc p) (eq-eqb (claim-of f p) 0 z)) in
+      moved (at-none (Claim (seen f p)) (length (claims-to f p)) (f .n) p z here) (ap Claim due) (ap length (sym same)) refl refl
+
+  at-more : (p : ℕ) → (claim-of f p ≡ 0 → ⊥) → Claimed p → Claimed (suc p)
+  at-more p z before R e =
       let some : 0 < claim-of f p = positive (claim-of f p) z in
-      let bytes = claim-record (p / 32) (p % 32) (claim-of f p) in
-      let more : claims-to f (suc p) ≡ claims-to f p ++ bytes =
-      ap (claims-to f) (sym (add-one p)) ∙ (ap (λ r. members-to f (f .n) ++ r)
-      (run-more (claim-bytes f) 0 p ∙ (ap (λ z. run (claim-bytes f) 0 p ++ claim-bytes f z) (zero-add p) ∙ ap (λ z. run (claim-bytes f) 0 p ++ z) (claim-some f p some)))
-      ∙ sym (append-assoc (members-to f (f .n)) (run (claim-bytes f) 0 p) bytes)) in
-      let e′ : s ≡ claims-to f p ++ (bytes ++ R) = e ∙ (ap (λ z. z ++ R) more ∙ append-assoc (claims-to f p) bytes R) in
-      let rest : drop (length (claims-to f p)) s ≡ bytes ++ R = ap (drop (length (claims-to f p))) e′ ∙ drop-at (claims-to f p) _ _ refl in
-      let long : length (claims-to f p) + 7 ≡ length (claims-to f (suc p)) = sym (ap length more ∙ length-append (claims-to f p) bytes) in
-      moved (at-claim (seen f p) p (length (claims-to f p)) R (seen-below f p) some rest (at-claims p (bytes ++ R) e′))
-      (ap Claim (add-one p ∙ sym (cond-false _ _ _ (ne-eqb (claim-of f p) 0 z)))) long refl (add-one p))
-      (cases-eq (claim-of f p) 0)
+      let X = claims-to f p in
+      let Y = claim-record (p / 32) (p % 32) (claim-of f p) in
+      let more : claims-to f (suc p) ≡ X ++ Y = ap (claims-to f) (sym (add-one p)) ∙ claims-more f p some in
+      let on = goes-on X Y R (e ∙ ap (λ z. z ++ R) more) in
+      let here = at-claim (seen f p) p (length X) R (seen-below f p) some (stands-at X (Y ++ R) on) (before (Y ++ R) on) in
+      let due = add-one p ∙ sym (cond-false (eqb (claim-of f p) 0) (seen f p) (suc p) (ne-eqb (claim-of f p) 0 z)) in
+      let long : length X + 7 ≡ length (claims-to f (suc p)) = sym (ap length more ∙ length-append X Y) in
+      moved here (ap Claim due) long refl (add-one p)
+
+  pub at-claims : (p : ℕ) → Claimed p
+  unfolding run
+  at-claims zero = λ R e.
+      let none : claims-to f 0 ≡ members-to f (f .n) = append-nil (members-to f (f .n)) in
+      let due = cond-false (ltb (f .n) (f .n)) (Member (f .n)) (Claim 0) (le-ltb (f .n) (f .n) (omega arith)) in
+      moved (at-members (f .n) (omega arith) R (e ∙ ap (λ z. z ++ R) none)) due (ap length (sym none)) refl refl
+  at-claims (suc p) = λ R e.
+      ⊎-elim (λ z. at-skip p z (at-claims p) R e) (λ z. at-more p z (at-claims p) R e) (cases-eq (claim-of f p) 0)
 
   pub at-nothing : (R : List ℕ) → s ≡ file-of f ++ R → At s f Nothing (length (file-of f)) (f .n) 1024
   unfolding file-of
   at-nothing R e =
-      let e′ : s ≡ claims-to f 1024 ++ (end-record ++ R) = e ∙ append-assoc (claims-to f 1024) end-record R in
-      let rest : drop (length (claims-to f 1024)) s ≡ end-record ++ R = ap (drop (length (claims-to f 1024))) e′ ∙ drop-at (claims-to f 1024) _ _ refl in
-      moved (at-end (seen f 1024) (length (claims-to f 1024)) (f .n) 1024 R rest (at-claims 1024 (end-record ++ R) e′))
-      refl (sym (length-append (claims-to f 1024) end-record)) refl refl
+      let X = claims-to f 1024 in
+      let on = goes-on X end-record R e in
+      let last = at-claims 1024 (end-record ++ R) on in
+      let long = sym (length-append X end-record) in
+      moved (at-end (seen f 1024) (length X) (f .n) 1024 R (stands-at X (end-record ++ R) on) last) refl long refl refl

@@ -8,6 +8,10 @@ ghost use Rattle.netfile.specs.Loads.{Entered};
 use crate::due::Due;
 use crate::fault::file_fault;
 use crate::fault::met_at;
+use crate::record::CLAIM;
+use crate::record::END;
+use crate::record::MEMBER;
+use crate::record::NETWORK;
 use crate::record::Record;
 use crate::record::first_record;
 use network::Cause;
@@ -33,7 +37,7 @@ fn read_network(draft: &Draft, rest: &[u8], byte: usize) -> Result<Due, Fault>
     ensures { λ r. ⌜ Gives (due-fault (now (draft .entry) .figures .n) Due.Network byte (now (rest .entry)))
         (λ next. next ≡ Due.Member 0) (Unit {0}) r ⌝ }
 {
-    let Record::Network(body) = first_record(rest, byte, 1, 1)? else {
+    let Record::Network(body) = first_record(rest, byte, NETWORK, NETWORK)? else {
         return Err(file_fault(Cause::NotDue, byte));
     };
     if body[0] != draft.count().get() {
@@ -47,7 +51,7 @@ fn read_member(draft: &mut Draft, rest: &[u8], byte: usize, member: u8) -> Resul
         (λ next. (next ≡ due-after (now (draft .entry) .figures .n) (Due.Member member) (now (rest .entry)))
         × Entered (now (draft .entry) .figures) (Due.Member member) (now (rest .entry)) (now (draft .exit) .figures)) (Unit {0}) r ⌝ }
 {
-    let Record::Member(body) = first_record(rest, byte, 2, 2)? else {
+    let Record::Member(body) = first_record(rest, byte, MEMBER, MEMBER)? else {
         return Err(file_fault(Cause::NotDue, byte));
     };
     if body[0] != member {
@@ -70,7 +74,7 @@ fn read_claim(draft: &mut Draft, rest: &[u8], byte: usize, least: usize) -> Resu
         (λ next. (next ≡ due-after (now (draft .entry) .figures .n) (Due.Claim least) (now (rest .entry)))
         × Entered (now (draft .entry) .figures) (Due.Claim least) (now (rest .entry)) (now (draft .exit) .figures)) (Unit {0}) r ⌝ }
 {
-    let Record::Claim(body) = first_record(rest, byte, 3, 4)? else {
+    let Record::Claim(body) = first_record(rest, byte, CLAIM, END)? else {
         return Ok(Due::Nothing);
     };
     let units = u32::from_be_bytes([body[2], body[3], body[4], body[5]]);
