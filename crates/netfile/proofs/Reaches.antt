@@ -22,7 +22,8 @@ use Rattle.netfile.specs.declared.due.Due.{Due}
 use Rattle.netfile.specs.declared.due.Due.the-variants.{Network, Member, Claim, Nothing}
 use Rattle.netfile.specs.Records.{file-fault, kind, outside, record-length, record-fault}
 use Rattle.netfile.specs.Files.{run, four-bytes, number-at, claim-of, network-record, member-record, member-bytes, claim-bytes, claim-record, members-to, claims-to, end-record, file-of}
-use Rattle.netfile.specs.Checks.{draft-or, place-of, due-fault, due-after}
+use Rattle.netfile.specs.Checks.{draft-or, place-of, due-fault}
+use Rattle.netfile.specs.Reads.{due-after}
 use Rattle.netfile.proofs.Bytes.{number-of-bytes}
 use Rattle.netfile.proofs.Files.{members-more, claims-more, claims-skip}
 use Rattle.netfile.proofs.Passing.{positive}

@@ -20,8 +20,9 @@ use Rattle.netfile.specs.declared.due.Due.{Due}
 use Rattle.netfile.specs.declared.due.Due.the-variants.{Network, Member, Claim, Nothing}
 use Rattle.netfile.specs.Records.{file-fault, kind, body-length, record-length}
 use Rattle.netfile.specs.Files.{run, number-at, claim-of, member-record, member-bytes, claim-bytes, claim-record, members-to, claims-to, end-record, file-of}
-use Rattle.netfile.specs.Checks.{place-of, due-fault, due-after}
-use Rattle.netfile.specs.Loads.{Begins, Entered}
+use Rattle.netfile.specs.Checks.{place-of, due-fault}
+use Rattle.netfile.specs.Reads.{due-after, Entered}
+use Rattle.netfile.specs.Loads.{Begins}
 use Rattle.netfile.proofs.Bytes.{Bytes, bytes-at, each, take-each}
 use Rattle.netfile.proofs.Files.{claim-none, claim-some}
 use Rattle.netfile.proofs.Passing.{network-passes, member-passes, claim-passes, lies}

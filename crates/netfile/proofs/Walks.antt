@@ -14,7 +14,8 @@ use Rattle.netfile.specs.declared.due.Due.{Due}
 use Rattle.netfile.specs.declared.due.Due.the-variants.{Network, Member, Claim, Nothing}
 use Rattle.netfile.specs.Records.{kind, record-length}
 use Rattle.netfile.specs.Files.{number-at}
-use Rattle.netfile.specs.Checks.{place-of, due-fault, due-after}
+use Rattle.netfile.specs.Checks.{place-of, due-fault}
+use Rattle.netfile.specs.Reads.{due-after}
 
 -- what is due, at which byte, and the entries that were read before it
 pub record Spot : Type 0 where

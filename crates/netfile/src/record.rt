@@ -10,13 +10,13 @@ use network::Cause;
 use network::Fault;
 
 // The kinds of records.
-pub const NETWORK: u8 = 1;
+pub(crate) const NETWORK: u8 = 1;
 
-pub const MEMBER: u8 = 2;
+pub(crate) const MEMBER: u8 = 2;
 
-pub const CLAIM: u8 = 3;
+pub(crate) const CLAIM: u8 = 3;
 
-pub const END: u8 = 4;
+pub(crate) const END: u8 = 4;
 
 // The length of a record's body by its kind; no record has kind 0.
 pub const BODY_LENGTHS: [usize; 5] = [0, 1, 7, 6, 0];

@@ -15,10 +15,11 @@ use network::Cause;
 use network::Draft;
 use network::Fault;
 use network::Figures;
+use network::MEMBERS;
 use network::Member;
 
 // The places of claims: 32 times the debtor plus the creditor.
-const PLACES: usize = 1024;
+const PLACES: usize = MEMBERS * MEMBERS;
 
 // The length of a network's file.
 pub fn file_length(figures: &Figures) -> usize
@@ -27,7 +28,7 @@ pub fn file_length(figures: &Figures) -> usize
     let members = figures.n as usize * (1 + BODY_LENGTHS[MEMBER as usize]);
     let mut total = 1 + BODY_LENGTHS[NETWORK as usize] + members;
     for place in 0..PLACES {
-        if figures.claims[place / 32][place % 32] > 0 {
+        if figures.claims[place / MEMBERS][place % MEMBERS] > 0 {
             total += 1 + BODY_LENGTHS[CLAIM as usize];
         }
     }
@@ -70,9 +71,9 @@ fn put_claims(buffer: &mut [u8], start: usize, figures: &Figures) -> usize
 {
     let mut end = start;
     for place in 0..PLACES {
-        let units = figures.claims[place / 32][place % 32];
+        let units = figures.claims[place / MEMBERS][place % MEMBERS];
         if units > 0 {
-            let record = claim_record((place / 32) as u8, (place % 32) as u8, units);
+            let record = claim_record((place / MEMBERS) as u8, (place % MEMBERS) as u8, units);
             end = put(buffer, end, &record);
         }
     }
