@@ -7,71 +7,18 @@ mod tests {
 
     // A file of three members and five claims, with a byte behind it. The Member records begin at bytes
     // 2, 10 and 18, the Claim records at 26, 33, 40, 47 and 54, the End record at 61.
-    const FILE: [u8; 63] = [
-        1,
-        3,
-        2,
-        0,
-        0,
-        0,
-        0,
-        0,
-        0,
-        2,
-        2,
-        1,
-        1,
-        0,
-        0,
-        0,
-        0,
-        0,
-        2,
-        2,
-        2,
-        0,
-        0,
-        0,
-        0,
-        1,
-        3,
-        0,
-        1,
-        0,
-        0,
-        0,
-        4,
-        3,
-        0,
-        2,
-        0,
-        0,
-        0,
-        2,
-        3,
-        1,
-        0,
-        0,
-        0,
-        0,
-        1,
-        3,
-        1,
-        2,
-        0,
-        0,
-        0,
-        5,
-        3,
-        2,
-        0,
-        0,
-        0,
-        0,
-        5,
-        4,
-        9,
-    ];
+    const FILE: [u8; 63] = *b"\
+        \x01\x03\
+        \x02\x00\x00\x00\x00\x00\x00\x02\
+        \x02\x01\x01\x00\x00\x00\x00\x00\
+        \x02\x02\x02\x00\x00\x00\x00\x01\
+        \x03\x00\x01\x00\x00\x00\x04\
+        \x03\x00\x02\x00\x00\x00\x02\
+        \x03\x01\x00\x00\x00\x00\x01\
+        \x03\x01\x02\x00\x00\x00\x05\
+        \x03\x02\x00\x00\x00\x00\x05\
+        \x04\
+        \x09";
 
     fn of_file(cause: Cause, byte: usize) -> Fault {
         Fault::of_nobody(Layer::File, cause).at_byte(byte)
@@ -164,6 +111,10 @@ mod tests {
         check_eq(write(&draft, &mut buffer)?, 62)?;
         check(&buffer[0..62] == &FILE[0..62])?;
         check(buffer[62] == 7 && buffer[63] == 7)?;
+        let mut copied = Draft::new(draft.count());
+        check_eq(copy(&draft, &mut copied, &mut buffer)?, 62)?;
+        check_eq(copied.figures().claims[1][2], 5)?;
+        check_eq(rewrite(&FILE[0..62], &mut buffer)?, 62)?;
         check_eq(
             rewrite(&FILE[0..62], &mut buffer[0..61]),
             Err(of_file(Cause::ShortBuffer, 0)),
