@@ -1,5 +1,5 @@
 -- A record whose body is refused: by the draft, or by the order of the claims.
-use mathlib.Core.Path.{_≡_, refl, ap, _∙_}
+use mathlib.Core.Path.{_≡_, refl, ap, subst, _∙_}
 use mathlib.Core.List.{List}
 use mathlib.Core.Bool.{true, cond, _||_}
 use mathlib.Core.Logic.{_⊎_, ⊎-elim}
@@ -7,6 +7,7 @@ use Prim.Native.Nat.{ℕ, _+_, _*_, _<_}
 use native.Mathlib.Omega.{arith}
 use lib.ListN.{getD, take, drop}
 use lib.Dec.{eqb, ltb}
+use denote.Ref.{RefT, now}
 use Rattle.std.specs.declared.option.Option.{Option}
 use Rattle.std.specs.declared.option.Option.the-variants.{Some, None}
 use Rattle.std.specs.declared.result.Result.{Result}
@@ -19,7 +20,9 @@ use Rattle.network.specs.Answers.{Gives}
 use Rattle.network.specs.Faults.{at-byte}
 use Rattle.network.specs.Refusals.{member-fault, claim-fault}
 use Rattle.netfile.specs.declared.due.Due.the-variants.{Member, Claim}
-use Rattle.netfile.specs.Records.{file-fault, kind, record-fault}
+use Rattle.netfile.specs.declared.record.Record.{Record}
+use Rattle.netfile.specs.declared.record.Record.the-variants.{Member as MemberRecord, Claim as ClaimRecord}
+use Rattle.netfile.specs.Records.{file-fault, kind, body-length, record-fault, IsRecord}
 use Rattle.netfile.specs.Files.{number-at}
 use Rattle.netfile.specs.Checks.{met-at, draft-or, due-fault}
 use Rattle.netfile.proofs.Passing.{body-decides}
@@ -38,6 +41,20 @@ draft-accepts :
     Gives v P Q r → o ≡ met-at byte r → o ≡ Ok x → draft-or byte v next ≡ next
 draft-accepts byte v next P Q (Ok y) o x g m k = rw (g .0)
 draft-accepts byte v next P Q (Err e) o x g m k = absurd (let z : _≡_ {A = ℕ} 0 1 = cc in omega arith)
+
+-- the body of a record that was read
+pub member-body :
+    (rest body : RefT (List ℕ)) (r : Record) → IsRecord rest 0 r → r ≡ MemberRecord body → now body ≡ take 7 (drop 1 (now rest))
+member-body rest body r is e =
+    let b = subst (IsRecord rest 0) e is in
+    b .1 .is ∙ ap (λ k. take (body-length k) (drop 1 (now rest))) (b .0)
+
+pub claim-body :
+    (rest body : RefT (List ℕ)) (r : Record) → IsRecord rest 0 r → r ≡ ClaimRecord body →
+    (kind (now rest) ≡ 3) × (now body ≡ take 6 (drop 1 (now rest)))
+claim-body rest body r is e =
+    let b = subst (IsRecord rest 0) e is in
+    (b .0, b .1 .is ∙ ap (λ k. take (body-length k) (drop 1 (now rest))) (b .0))
 
 -- a byte of a body, as a byte of the record
 byte-at : (t body : List ℕ) (m k j : ℕ) → body ≡ take m (drop 1 t) → k < m → 1 + k ≡ j → getD t j 0 ≡ getD body k 0

@@ -3,5 +3,10 @@ pub mod Passing
 pub mod Entering
 pub mod Bytes
 pub mod Runs
-pub mod Claims
+pub mod Files
+pub mod Puts
 pub mod Steps
+pub mod Walks
+pub mod Reaches
+pub mod Unique
+pub mod RoundTrips

@@ -85,7 +85,7 @@ member-passes n member byte t h =
     let mine = unless (not (eqb (getD t 1 0) member)) _ _ (p .checked) .0 in
     (omega (arith, p .from, p .to), len, omega (arith, p .whole), eqb-true (getD t 1 0) member (not-false _ mine))
 
-positive : (x : ℕ) → (x ≡ 0 → ⊥) → 0 < x
+pub positive : (x : ℕ) → (x ≡ 0 → ⊥) → 0 < x
 positive zero h = absurd (h refl)
 positive (suc x) h = omega arith
 

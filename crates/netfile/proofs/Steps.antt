@@ -4,7 +4,6 @@ use mathlib.Core.List.{List, [], _∷_, _++_}
 use mathlib.Core.Logic.{_⊎_, inl, inr, ⊎-elim, _≢_}
 use mathlib.Core.Bool.{true, false, cond}
 use Prim.Native.Nat.{ℕ, _+_, _-_, _*_, _/_, _%_, _<_, _≤_}
-use native.Mathlib.Nat.{zero-add}
 use native.Mathlib.Omega.{arith}
 use lib.ListN.{length, getD, set, take, drop}
 use lib.Dec.{eqb, ltb}
@@ -21,10 +20,11 @@ use Rattle.netfile.specs.declared.due.Due.{Due}
 use Rattle.netfile.specs.declared.due.Due.the-variants.{Network, Member, Claim, Nothing}
 use Rattle.netfile.specs.Records.{file-fault, kind, body-length, record-length}
 use Rattle.netfile.specs.Files.{run, number-at, claim-of, member-record, member-bytes, claim-bytes, claim-record, members-to, claims-to, end-record, file-of}
-use Rattle.netfile.specs.Checks.{place-of, due-fault, due-after}
-use Rattle.netfile.specs.Loads.{Begins, Entered}
+use Rattle.netfile.specs.Checks.{place-of, due-fault}
+use Rattle.netfile.specs.Reads.{due-after, Entered}
+use Rattle.netfile.specs.Loads.{Begins}
 use Rattle.netfile.proofs.Bytes.{Bytes, bytes-at, each, take-each}
-use Rattle.netfile.proofs.Claims.{claim-none, claim-some}
+use Rattle.netfile.proofs.Files.{claim-none, claim-some}
 use Rattle.netfile.proofs.Passing.{network-passes, member-passes, claim-passes, lies}
 use Rattle.netfile.proofs.Runs.{run-more, run-same, run-idle}
 
@@ -66,7 +66,7 @@ member-step f g k byte t bytes below ok s =
     run-same (member-bytes g) (member-bytes f) 0 k (λ i a z. ap (member-record i)
     (ap (λ ms. getD ms i nobody) (s .members) ∙ getD-set-other (f .members) k i new nobody (λ (e : i ≡ k). omega arith))) in
     let all : run (member-bytes g) 0 (k + 1) ≡ run (member-bytes f) 0 k ++ take (record-length t) t =
-    run-more (member-bytes g) 0 k ∙ (ap (λ z. run (member-bytes g) 0 k ++ member-bytes g z) (zero-add k) ∙ cc) in
+    run-more (member-bytes g) k ∙ cc in
     let n = s .count in
     cc
 
@@ -144,7 +144,7 @@ claim-step f g least byte t bytes ahead ok kd s =
     let idle : run (claim-bytes f) 0 q ≡ run (claim-bytes f) 0 least =
     run-idle (claim-bytes f) least q (p .rising) (λ r a z. claim-none f r (omega (arith, ahead r a (omega arith)))) in
     let all : run (claim-bytes g) 0 (q + 1) ≡ run (claim-bytes f) 0 least ++ take (record-length t) t =
-    run-more (claim-bytes g) 0 q ∙ (ap (λ z. run (claim-bytes g) 0 q ++ claim-bytes g z) (zero-add q) ∙ cc) in
+    run-more (claim-bytes g) q ∙ cc in
     let head : members-to g (g .n) ≡ members-to f (f .n) = members-same f g (s .count) (s .members) in
     record {
       bytes = append-assoc (members-to f (f .n)) (run (claim-bytes f) 0 least) (take (record-length t) t) ∙ cc;

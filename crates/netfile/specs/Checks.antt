@@ -48,10 +48,3 @@ due-fault n (Claim least) byte t =
     (cond (eqb (number-at t 3) 0 || ltb (place-of t) least) (Some (file-fault ClaimOrder byte))
     None)))
 due-fault n Nothing byte t = cond (eqb (length t) 0) None (Some (file-fault NotDue byte))
-
--- what is due behind the record that t begins with
-abbrev pub due-after : ℕ → Due → List ℕ → Due
-due-after n Network t = Member 0
-due-after n (Member member) t = cond (ltb (member + 1) n) (Member (member + 1)) (Claim 0)
-due-after n (Claim least) t = cond (eqb (kind t) 4) Nothing (Claim (place-of t + 1))
-due-after n Nothing t = Nothing

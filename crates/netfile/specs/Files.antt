@@ -43,12 +43,19 @@ claim-of f place = claim-at f (place / 32) (place % 32)
 abbrev pub claim-bytes : Figures → ℕ → List ℕ
 claim-bytes f place = cond (eqb (claim-of f place) 0) [] (claim-record (place / 32) (place % 32) (claim-of f place))
 
--- the file as far as the record of member i, as far as the claim at a place, and the whole of it
+abbrev pub members-of : Figures → List ℕ
+members-of f = run (member-bytes f) 0 (f .n)
+
+abbrev pub claims-of : Figures → List ℕ
+claims-of f = run (claim-bytes f) 0 1024
+
+-- the file of f: the Network record, one record for each member and each claim above 0, the End record
+unfoldable pub file-of : Figures → List ℕ
+file-of f = ((network-record (f .n) ++ members-of f) ++ claims-of f) ++ end-record
+
+-- the file as far as the record of member i, and as far as the claim at a place
 abbrev pub members-to : Figures → ℕ → List ℕ
 members-to f i = network-record (f .n) ++ run (member-bytes f) 0 i
 
 abbrev pub claims-to : Figures → ℕ → List ℕ
 claims-to f place = members-to f (f .n) ++ run (claim-bytes f) 0 place
-
-unfoldable pub file-of : Figures → List ℕ
-file-of f = claims-to f 1024 ++ end-record

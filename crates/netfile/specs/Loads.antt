@@ -3,21 +3,20 @@ use mathlib.Core.Path.{_≡_}
 use mathlib.Core.List.{List, []}
 use mathlib.Core.Logic.{_⊎_}
 use Prim.Native.Nat.{ℕ, _-_, _<_, _≤_}
-use lib.ListN.{length, getD, take, drop}
+use lib.ListN.{length, take, drop}
 use Rattle.std.specs.declared.option.Option.the-variants.{Some}
 use Rattle.std.specs.declared.result.Result.{Result}
 use Rattle.std.specs.declared.result.Result.the-variants.{Ok, Err}
 use Rattle.network.specs.declared.fault.Fault.{Fault}
 use Rattle.network.specs.declared.draft.Draft.{Draft}
 use Rattle.network.specs.declared.figures.Figures.{Figures}
-use Rattle.network.specs.Entries.{MemberSet, ClaimSet}
 use Rattle.netfile.specs.declared.due.Due.{Due}
 use Rattle.netfile.specs.declared.due.Due.the-variants.{Network, Member, Claim, Nothing}
-use Rattle.netfile.specs.Records.{kind}
-use Rattle.netfile.specs.Files.{number-at, claim-of, members-to, claims-to, file-of}
-use Rattle.netfile.specs.Checks.{due-fault, due-after}
+use Rattle.netfile.specs.Files.{claim-of, members-to, claims-to, file-of}
+use Rattle.netfile.specs.Checks.{due-fault}
 
--- bs is the file of f as far as d, which is due behind it
+-- bs is the file of f as far as d, which is due behind it; where claims are due from a place on that is
+-- not the first, a claim stands right before it
 abbrev pub Begins : Figures → Due → List ℕ → Type 0
 Begins f Network bs = bs ≡ []
 Begins f (Member member) bs = (member < f .n) × (bs ≡ members-to f member)
@@ -34,15 +33,6 @@ pub record FaultOf (n : ℕ) (s : List ℕ) (e : Fault) : Type 0 where
   pub within : byte ≤ length s
   pub before : Begins network due (take byte s)
   pub fails : due-fault n due byte (drop byte s) ≡ Some e
-
--- what the record that t begins with, where d is due, makes of the figures
-abbrev pub Entered : Figures → Due → List ℕ → Figures → Type 0
-Entered f Network t g = g ≡ f
-Entered f (Member member) t g = MemberSet f member (getD t 2 0) (getD t 3 0) (number-at t 4) g
-Entered f (Claim least) t g =
-    ((kind t ≡ 4) × (g ≡ f))
-    ⊎ ((kind t ≡ 3) × ClaimSet f (getD t 1 0) (getD t 2 0) (number-at t 3) g)
-Entered f Nothing t g = ⊥
 
 -- s is the file of what the draft then holds, or the draft is as it was and the fault is that of s
 abbrev pub Loaded : Draft → List ℕ → Result (Unit {0}) Fault → Draft → Type 0

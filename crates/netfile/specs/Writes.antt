@@ -13,10 +13,6 @@ use Rattle.network.specs.declared.figures.Figures.{Figures}
 use Rattle.netfile.specs.Records.{file-fault}
 use Rattle.netfile.specs.Files.{file-of}
 
--- bs with xs written over it from the byte `start` on
-abbrev pub put-in : ℕ → List ℕ → List ℕ → List ℕ
-put-in start xs bs = take start bs ++ (xs ++ drop (start + length xs) bs)
-
 -- a buffer that the file of f does not fit into
 abbrev pub short-fault : Figures → List ℕ → Option Fault
 short-fault f buffer = cond (ltb (length buffer) (length (file-of f))) (Some (file-fault ShortBuffer 0)) None
@@ -25,3 +21,16 @@ short-fault f buffer = cond (ltb (length buffer) (length (file-of f))) (Some (fi
 pub record Written (f : Figures) (before : List ℕ) (count : ℕ) (after : List ℕ) : Type 0 where
   pub ends : count ≡ length (file-of f)
   pub bytes : after ≡ file-of f ++ drop count before
+
+-- no other network has the file of f
+abbrev pub Sole : Figures → Type 0
+Sole f = (g : Figures) → file-of g ≡ file-of f → g ≡ f
+
+-- bs with xs over it from the byte `start` on
+abbrev pub put-in : ℕ → List ℕ → List ℕ → List ℕ
+put-in start xs bs = take start bs ++ (xs ++ drop (start + length xs) bs)
+
+-- xs is put over the buffer from `start` to `end`
+pub record Put (start : ℕ) (xs before : List ℕ) (end : ℕ) (after : List ℕ) : Type 0 where
+  pub ends : end ≡ start + length xs
+  pub bytes : after ≡ put-in start xs before

@@ -4,6 +4,7 @@ ghost use lib.ListN.{getD};
 ghost use Rattle.network.specs.Answers.{Gives};
 ghost use Rattle.netfile.specs.Records.{counted-fault};
 use crate::fault::file_fault;
+use crate::record::NETWORK;
 use crate::record::Record;
 use crate::record::first_record;
 use network::Cause;
@@ -14,7 +15,7 @@ use network::MemberCount;
 pub fn count(file: &[u8]) -> Result<MemberCount, Fault>
     ensures { λ r. ⌜ Gives (counted-fault (now (file .entry))) (λ count. count .n ≡ getD (now (file .entry)) 1 0) (Unit {0}) r ⌝ }
 {
-    let Record::Network(body) = first_record(file, 0, 1, 1)? else {
+    let Record::Network(body) = first_record(file, 0, NETWORK, NETWORK)? else {
         return Err(file_fault(Cause::NotDue, 0));
     };
     MemberCount::new(body[0])

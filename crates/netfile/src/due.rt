@@ -1,6 +1,6 @@
 // What is due at a place of a network file.
 #[derive(Clone, Copy)]
-pub enum Due {
+pub(crate) enum Due {
     // the Network record
     Network,
     // the Member record of this member

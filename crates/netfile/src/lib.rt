@@ -5,6 +5,7 @@ mod fault;
 mod loading;
 mod reading;
 mod record;
+mod trips;
 mod writing;
 
 pub use counting::count;
@@ -13,5 +14,7 @@ pub use record::BODY_LENGTHS;
 pub use record::Record;
 pub use record::record_at;
 pub use record::rest_after;
+pub use trips::copy;
+pub use trips::rewrite;
 pub use writing::file_length;
 pub use writing::write;

@@ -14,6 +14,8 @@ use network::Fault;
 // before the draft is altered.
 pub fn load(draft: &mut Draft, file: &[u8]) -> Result<(), Fault>
     ensures loaded { λ r. ⌜ Loaded (now (draft .entry)) (now (file .entry)) r (now (draft .exit)) ⌝ }
+    ensures accepts { λ r. ⌜ Accepts (now (draft .entry)) (now (file .entry)) r (now (draft .exit)) ⌝ }
+    ensures only { λ r. ⌜ Only (now (draft .entry)) (now (file .entry)) r ⌝ }
 {
     let mut next = Draft::new(draft.count());
     let mut due = Due::Network;

@@ -1,25 +1,25 @@
 // Reading one record of a network file into a draft.
-ghost use mathlib.Core.Path.{_≡_};
 ghost use Prim.Native.Nat.{_<_};
 ghost use lib.ListN.{length};
-ghost use Rattle.network.specs.Answers.{Gives};
-ghost use Rattle.netfile.specs.Checks.{due-fault, due-after};
-ghost use Rattle.netfile.specs.Loads.{Entered};
+ghost use Rattle.netfile.specs.Reads.{Reads};
 use crate::due::Due;
 use crate::fault::file_fault;
 use crate::fault::met_at;
+use crate::record::CLAIM;
+use crate::record::END;
+use crate::record::MEMBER;
+use crate::record::NETWORK;
 use crate::record::Record;
 use crate::record::first_record;
 use network::Cause;
 use network::Draft;
 use network::Fault;
+use network::MEMBERS;
 
 // Reads the record that `rest`, which stands at `byte`, begins with; answers what is due behind it.
 pub(crate) fn read(draft: &mut Draft, rest: &[u8], byte: usize, due: Due) -> Result<Due, Fault>
     requires { ⌜ 0 < length (now rest) ⌝ }
-    ensures { λ r. ⌜ Gives (due-fault (now (draft .entry) .figures .n) due byte (now (rest .entry)))
-        (λ next. (next ≡ due-after (now (draft .entry) .figures .n) due (now (rest .entry)))
-        × Entered (now (draft .entry) .figures) due (now (rest .entry)) (now (draft .exit) .figures)) (Unit {0}) r ⌝ }
+    ensures { λ r. ⌜ Reads (now (draft .entry) .figures) due byte (now (rest .entry)) r (now (draft .exit) .figures) ⌝ }
 {
     match due {
         Due::Network => read_network(draft, rest, byte),
@@ -30,10 +30,9 @@ pub(crate) fn read(draft: &mut Draft, rest: &[u8], byte: usize, due: Due) -> Res
 }
 
 fn read_network(draft: &Draft, rest: &[u8], byte: usize) -> Result<Due, Fault>
-    ensures { λ r. ⌜ Gives (due-fault (now (draft .entry) .figures .n) Due.Network byte (now (rest .entry)))
-        (λ next. next ≡ Due.Member 0) (Unit {0}) r ⌝ }
+    ensures { λ r. ⌜ Reads (now (draft .entry) .figures) Due.Network byte (now (rest .entry)) r (now (draft .entry) .figures) ⌝ }
 {
-    let Record::Network(body) = first_record(rest, byte, 1, 1)? else {
+    let Record::Network(body) = first_record(rest, byte, NETWORK, NETWORK)? else {
         return Err(file_fault(Cause::NotDue, byte));
     };
     if body[0] != draft.count().get() {
@@ -43,21 +42,17 @@ fn read_network(draft: &Draft, rest: &[u8], byte: usize) -> Result<Due, Fault>
 }
 
 fn read_member(draft: &mut Draft, rest: &[u8], byte: usize, member: u8) -> Result<Due, Fault>
-    ensures { λ r. ⌜ Gives (due-fault (now (draft .entry) .figures .n) (Due.Member member) byte (now (rest .entry)))
-        (λ next. (next ≡ due-after (now (draft .entry) .figures .n) (Due.Member member) (now (rest .entry)))
-        × Entered (now (draft .entry) .figures) (Due.Member member) (now (rest .entry)) (now (draft .exit) .figures)) (Unit {0}) r ⌝ }
+    ensures { λ r. ⌜ Reads (now (draft .entry) .figures) (Due.Member member) byte (now (rest .entry)) r (now (draft .exit) .figures) ⌝ }
 {
-    let Record::Member(body) = first_record(rest, byte, 2, 2)? else {
+    let Record::Member(body) = first_record(rest, byte, MEMBER, MEMBER)? else {
         return Err(file_fault(Cause::NotDue, byte));
     };
     if body[0] != member {
         return Err(file_fault(Cause::NotDue, byte));
     }
     let endowment = u32::from_be_bytes([body[3], body[4], body[5], body[6]]);
-    met_at(
-        byte,
-        draft.enter_member(member, body[1], body[2], endowment),
-    )?;
+    let entered = draft.enter_member(member, body[1], body[2], endowment);
+    met_at(byte, entered)?;
     if member + 1 < draft.count().get() {
         Ok(Due::Member(member + 1))
     } else {
@@ -66,16 +61,15 @@ fn read_member(draft: &mut Draft, rest: &[u8], byte: usize, member: u8) -> Resul
 }
 
 fn read_claim(draft: &mut Draft, rest: &[u8], byte: usize, least: usize) -> Result<Due, Fault>
-    ensures { λ r. ⌜ Gives (due-fault (now (draft .entry) .figures .n) (Due.Claim least) byte (now (rest .entry)))
-        (λ next. (next ≡ due-after (now (draft .entry) .figures .n) (Due.Claim least) (now (rest .entry)))
-        × Entered (now (draft .entry) .figures) (Due.Claim least) (now (rest .entry)) (now (draft .exit) .figures)) (Unit {0}) r ⌝ }
+    ensures { λ r. ⌜ Reads (now (draft .entry) .figures) (Due.Claim least) byte (now (rest .entry)) r (now (draft .exit) .figures) ⌝ }
 {
-    let Record::Claim(body) = first_record(rest, byte, 3, 4)? else {
+    let Record::Claim(body) = first_record(rest, byte, CLAIM, END)? else {
         return Ok(Due::Nothing);
     };
     let units = u32::from_be_bytes([body[2], body[3], body[4], body[5]]);
-    met_at(byte, draft.enter_claim(body[0], body[1], units))?;
-    let place = 32 * body[0] as usize + body[1] as usize;
+    let entered = draft.enter_claim(body[0], body[1], units);
+    met_at(byte, entered)?;
+    let place = MEMBERS * body[0] as usize + body[1] as usize;
     if units == 0 || place < least {
         return Err(file_fault(Cause::ClaimOrder, byte));
     }

@@ -9,6 +9,15 @@ use crate::fault::file_fault;
 use network::Cause;
 use network::Fault;
 
+// The kinds of records.
+pub(crate) const NETWORK: u8 = 1;
+
+pub(crate) const MEMBER: u8 = 2;
+
+pub(crate) const CLAIM: u8 = 3;
+
+pub(crate) const END: u8 = 4;
+
 // The length of a record's body by its kind; no record has kind 0.
 pub const BODY_LENGTHS: [usize; 5] = [0, 1, 7, 6, 0];
 
@@ -25,7 +34,7 @@ pub enum Record<'a> {
 pub fn record_at<'a>(file: &'a [u8], byte: usize) -> Result<Record<'a>, Fault>
     ensures { λ r. ⌜ Gives (record-fault 1 4 byte (drop byte (now (file .entry))) None) (IsRecord (file .entry) byte) (Unit {0}) r ⌝ }
 {
-    first_record(rest_from(file, byte), byte, 1, 4)
+    first_record(rest_from(file, byte), byte, NETWORK, END)
 }
 
 // The rest of a file after the record that begins at a byte.
@@ -34,7 +43,7 @@ pub fn rest_after<'a>(file: &'a [u8], byte: usize) -> Result<&'a [u8], Fault>
         (IsRest (file .entry) (byte + record-length (drop byte (now (file .entry))))) (Unit {0}) r ⌝ }
 {
     let rest = rest_from(file, byte);
-    let _record = first_record(rest, byte, 1, 4)?;
+    let _record = first_record(rest, byte, NETWORK, END)?;
     Ok(&rest[1 + BODY_LENGTHS[rest[0] as usize]..])
 }
 
@@ -63,7 +72,7 @@ pub(crate) fn first_record<'a>(
         return Err(file_fault(Cause::EndOfFile, byte));
     }
     let kind = rest[0];
-    if kind < 1 || kind > 4 {
+    if kind < NETWORK || kind > END {
         return Err(file_fault(Cause::UnknownKind, byte));
     }
     if kind < low || kind > high {
@@ -75,9 +84,9 @@ pub(crate) fn first_record<'a>(
     }
     let body = &rest[1..length];
     match kind {
-        1 => Ok(Record::Network(body)),
-        2 => Ok(Record::Member(body)),
-        3 => Ok(Record::Claim(body)),
+        NETWORK => Ok(Record::Network(body)),
+        MEMBER => Ok(Record::Member(body)),
+        CLAIM => Ok(Record::Claim(body)),
         _ => Ok(Record::End),
     }
 }

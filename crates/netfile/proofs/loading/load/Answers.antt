@@ -9,6 +9,7 @@ use Rattle.std.proofs.shelf.Results.{err-from-errBy}
 use Rattle.netfile.specs.Checks.{due-fault}
 use Rattle.netfile.specs.Loads.{Begins, Loaded}
 use Rattle.netfile.proofs.Steps.{turn, stops}
+use Rattle.netfile.proofs.Unique.{accepts, only}
 use Rattle.netfile.proofs.loading.load.Needs as need
 
 pub read-requires : need.read-requires
@@ -37,7 +38,7 @@ returns-in-Break-due c =
         fails = fails;
       },
     ) in
-    record { loaded = all }
+    record { loaded = all; accepts = accepts d d s (c .from-residual .result) all; only = only d d s (c .from-residual .result) all }
 
 pub loop-byte-again : need.loop-byte-again
 loop-byte-again c =
@@ -69,7 +70,7 @@ returns-in-rest c =
         fails = fails;
       },
     ) in
-    record { loaded = all }
+    record { loaded = all; accepts = accepts d d s (Err (c .file-fault .result)) all; only = only d d s (Err (c .file-fault .result)) all }
 
 pub returns : need.returns
 returns c =
@@ -78,4 +79,4 @@ returns c =
     let s = c .args .file .now in
     let so = subst (λ d. Begins (c .loop-byte .next .figures) d (take b s)) (c .in-Nothing .is) (inv .1 .1) in
     let all : Loaded (c .args .draft .now) s (Ok tt) (c .loop-byte .next) = (inv .1 .0, sym (take-all b s (omega arith)) ∙ so) in
-    record { loaded = all }
+    record { loaded = all; accepts = accepts (c .args .draft .now) (c .loop-byte .next) s (Ok tt) all; only = only (c .args .draft .now) (c .loop-byte .next) s (Ok tt) all }

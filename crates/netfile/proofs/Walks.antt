@@ -1,0 +1,117 @@
+-- A walk through a byte string, record by record, for as long as the checks pass. The bytes fix where it stops.
+use mathlib.Core.Path.{_≡_, refl, sym, ap, _∙_}
+use mathlib.Core.List.{List, []}
+use mathlib.Core.Bool.{cond}
+use Prim.Native.Nat.{ℕ, zero, suc, _+_}
+use lib.ListN.{getD, drop}
+use lib.Dec.{eqb}
+use Rattle.std.specs.declared.option.Option.{Option}
+use Rattle.std.specs.declared.option.Option.the-variants.{Some, None}
+use Rattle.network.specs.declared.fault.Fault.{Fault}
+use Rattle.network.specs.declared.figures.Member.{Member as Entry}
+use Rattle.network.specs.Limits.{nobody}
+use Rattle.netfile.specs.declared.due.Due.{Due}
+use Rattle.netfile.specs.declared.due.Due.the-variants.{Network, Member, Claim, Nothing}
+use Rattle.netfile.specs.Records.{kind, record-length}
+use Rattle.netfile.specs.Files.{number-at}
+use Rattle.netfile.specs.Checks.{place-of, due-fault}
+use Rattle.netfile.specs.Reads.{due-after}
+
+-- what is due, at which byte, and the entries that were read before it
+pub record Spot : Type 0 where
+  pub due : Due
+  pub byte : ℕ
+  pub members : ℕ → Entry
+  pub claims : ℕ → ℕ
+
+abbrev pub written : {X : Type 0} → (ℕ → X) → ℕ → X → ℕ → X
+written F k x i = cond (eqb i k) x (F i)
+
+abbrev pub members-with : Due → List ℕ → (ℕ → Entry) → ℕ → Entry
+members-with (Member k) t F = written F k (record { house = getD t 2 0; class = getD t 3 0; endowment = number-at t 4 })
+members-with Network t F = F
+members-with (Claim least) t F = F
+members-with Nothing t F = F
+
+abbrev pub claims-with : Due → List ℕ → (ℕ → ℕ) → ℕ → ℕ
+claims-with (Claim least) t F = cond (eqb (kind t) 4) F (written F (place-of t) (number-at t 3))
+claims-with Network t F = F
+claims-with (Member k) t F = F
+claims-with Nothing t F = F
+
+abbrev pub byte-after : Due → ℕ → List ℕ → ℕ
+byte-after Network byte t = byte + record-length t
+byte-after (Member k) byte t = byte + record-length t
+byte-after (Claim least) byte t = byte + record-length t
+byte-after Nothing byte t = byte
+
+abbrev pub spot : Due → ℕ → (ℕ → Entry) → (ℕ → ℕ) → Spot
+spot due byte members claims = record { due = due; byte = byte; members = members; claims = claims }
+
+-- behind the record that t begins with
+abbrev pub past : ℕ → List ℕ → Spot → Spot
+past n t x =
+    spot (due-after n (x .due) t) (byte-after (x .due) (x .byte) t) (members-with (x .due) t (x .members)) (claims-with (x .due) t (x .claims))
+
+abbrev pub onward : Option Fault → Spot → Spot → Spot
+onward (Some e) here next = here
+onward None here next = next
+
+abbrev pub fault-at : ℕ → List ℕ → Spot → Option Fault
+fault-at n s x = due-fault n (x .due) (x .byte) (drop (x .byte) s)
+
+unfoldable pub on : ℕ → List ℕ → Spot → Spot
+on n s x = onward (fault-at n s x) x (past n (drop (x .byte) s) x)
+
+unfoldable after : ℕ → List ℕ → ℕ → Spot → Spot
+after n s zero x = x
+after n s (suc k) x = on n s (after n s k x)
+
+abbrev start : Spot
+start = spot Network 0 (λ _. nobody) (λ _. 0)
+
+-- the walk comes to x
+pub record Walked (n : ℕ) (s : List ℕ) (x : Spot) : Type 0 where
+  steps : ℕ
+  is : after n s steps start ≡ x
+
+pub walk-starts : (n : ℕ) (s : List ℕ) → Walked n s start
+unfolding after
+walk-starts n s = record { steps = 0; is = refl }
+
+pub walk-on : (n : ℕ) (s t : List ℕ) (x : Spot) → Walked n s x → drop (x .byte) s ≡ t → due-fault n (x .due) (x .byte) t ≡ None → Walked n s (past n t x)
+unfolding after on
+walk-on n s t x w e none = record {
+  steps = suc (w .steps);
+  is = ap (on n s) (w .is) ∙ rw (e, none);
+}
+
+after-on : (n : ℕ) (s : List ℕ) (k : ℕ) (x : Spot) → after n s k (on n s x) ≡ on n s (after n s k x)
+unfolding after
+after-on n s zero x = refl
+after-on n s (suc k) x = ap (on n s) (after-on n s k x)
+
+after-after : (n : ℕ) (s : List ℕ) (j k : ℕ) (x : Spot) → after n s j (after n s k x) ≡ after n s k (after n s j x)
+unfolding after
+after-after n s zero k x = refl
+after-after n s (suc j) k x = ap (on n s) (after-after n s j k x) ∙ sym (after-on n s k (after n s j x))
+
+stays : (n : ℕ) (s : List ℕ) (k : ℕ) (x : Spot) → on n s x ≡ x → after n s k x ≡ x
+unfolding after
+stays n s zero x e = refl
+stays n s (suc k) x e = ap (on n s) (stays n s k x e) ∙ e
+
+-- it stops at one spot
+pub one-stop : (n : ℕ) (s : List ℕ) (x y : Spot) → Walked n s x → Walked n s y → on n s x ≡ x → on n s y ≡ y → x ≡ y
+one-stop n s x y v w ex ey =
+    sym (stays n s (w .steps) x ex) ∙ (ap (after n s (w .steps)) (sym (v .is)) ∙
+    (after-after n s (w .steps) (v .steps) start ∙ (ap (after n s (v .steps)) (w .is) ∙ stays n s (v .steps) y ey)))
+
+-- at a fault, and where nothing is due
+pub stops-at-fault : (n : ℕ) (s : List ℕ) (x : Spot) (e : Fault) → fault-at n s x ≡ Some e → on n s x ≡ x
+unfolding on
+stops-at-fault n s x e h = rw h
+
+pub stops-at-end : (n : ℕ) (s : List ℕ) (byte : ℕ) (members : ℕ → Entry) (claims : ℕ → ℕ) → drop byte s ≡ [] → on n s (spot Nothing byte members claims) ≡ spot Nothing byte members claims
+unfolding on
+stops-at-end n s byte members claims e = rw e
