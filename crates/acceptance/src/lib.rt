@@ -8,8 +8,68 @@ mod tests {
 
     // The worked network.
     const WORKED: [u8; 62] = [
-        1, 3, 2, 0, 0, 0, 0, 0, 0, 2, 2, 1, 1, 0, 0, 0, 0, 0, 2, 2, 2, 0, 0, 0, 0, 1, 3, 0, 1, 0, 0, 0, 4, 3, 0, 2, 0,
-        0, 0, 2, 3, 1, 0, 0, 0, 0, 1, 3, 1, 2, 0, 0, 0, 5, 3, 2, 0, 0, 0, 0, 5, 4,
+        1,
+        3,
+        2,
+        0,
+        0,
+        0,
+        0,
+        0,
+        0,
+        2,
+        2,
+        1,
+        1,
+        0,
+        0,
+        0,
+        0,
+        0,
+        2,
+        2,
+        2,
+        0,
+        0,
+        0,
+        0,
+        1,
+        3,
+        0,
+        1,
+        0,
+        0,
+        0,
+        4,
+        3,
+        0,
+        2,
+        0,
+        0,
+        0,
+        2,
+        3,
+        1,
+        0,
+        0,
+        0,
+        0,
+        1,
+        3,
+        1,
+        2,
+        0,
+        0,
+        0,
+        5,
+        3,
+        2,
+        0,
+        0,
+        0,
+        0,
+        5,
+        4,
     ];
 
     fn reports(heap: Global, input: &[u8], cleared: bool, text: &str) -> Result<(), Fail> {
@@ -20,7 +80,8 @@ mod tests {
 
     #[test]
     fn worked_network(rt: LibcRuntime) -> Result<(), Fail> {
-        let text = "paid 0 1 4\npaid 0 2 2\npaid 1 0 1\npaid 1 2 3\npaid 2 0 5\nequity 0 2\nequity 1 0\nequity 2 1\ndefault 1\nrounds 3 15 0\n";
+        let text =
+            "paid 0 1 4\npaid 0 2 2\npaid 1 0 1\npaid 1 2 3\npaid 2 0 5\nequity 0 2\nequity 1 0\nequity 2 1\ndefault 1\nrounds 3 15 0\n";
         reports(rt.alloc(), &WORKED, true, text)
     }
 
@@ -28,9 +89,42 @@ mod tests {
     #[test]
     fn empty_circle(rt: LibcRuntime) -> Result<(), Fail> {
         let file = [
-            1, 2, 2, 0, 0, 0, 0, 0, 0, 0, 2, 1, 0, 0, 0, 0, 0, 0, 3, 0, 1, 0, 0, 0, 5, 3, 1, 0, 0, 0, 0, 5, 4,
+            1,
+            2,
+            2,
+            0,
+            0,
+            0,
+            0,
+            0,
+            0,
+            0,
+            2,
+            1,
+            0,
+            0,
+            0,
+            0,
+            0,
+            0,
+            3,
+            0,
+            1,
+            0,
+            0,
+            0,
+            5,
+            3,
+            1,
+            0,
+            0,
+            0,
+            0,
+            5,
+            4,
         ];
-        let text = "paid 0 1 0\npaid 1 0 0\nequity 0 0\nequity 1 0\ndefault 0\ndefault 1\nrounds 0 0 0\n";
+        let text =
+            "paid 0 1 0\npaid 1 0 0\nequity 0 0\nequity 1 0\ndefault 0\ndefault 1\nrounds 0 0 0\n";
         reports(rt.alloc(), &file, true, text)
     }
 
@@ -49,7 +143,12 @@ mod tests {
         let heap = rt.alloc();
         reports(heap, &[], false, "fault 12 file 0 255 255\n")?;
         reports(heap, &[1, 33], false, "fault 1 draft 0 255 255\n")?;
-        reports(heap, &[1, 1, 2, 0, 0, 8, 0, 0, 0, 0, 4], false, "fault 3 draft 2 0 255\n")?;
+        reports(
+            heap,
+            &[1, 1, 2, 0, 0, 8, 0, 0, 0, 0, 4],
+            false,
+            "fault 3 draft 2 0 255\n",
+        )?;
         reports(heap, &WORKED[0..61], false, "fault 12 file 61 255 255\n")
     }
 }
