@@ -48,6 +48,10 @@ Proportionate cs hs =
     (getD cs j 0 * getD hs i 0 ≤ getD cs i 0 * (getD hs j 0 + 1)) ×
     (j < i → getD cs j 0 * getD hs i 0 < getD cs i 0 * (getD hs j 0 + 1))
 
+-- nobody falls a whole unit short of its proportional share of what is awarded
+abbrev pub LowerQuota : List ℕ → List ℕ → Type 0
+LowerQuota cs hs = (k : ℕ) → 0 < getD cs k 0 → getD cs k 0 * sum hs < (getD hs k 0 + 1) * sum cs
+
 -- a score that never rises with the units held
 abbrev pub NeverRises : Scoring → Type 0
 NeverRises f = (creditor claim held more : ℕ) → held ≤ more → more < claim → NotAbove (f creditor claim more) (f creditor claim held)

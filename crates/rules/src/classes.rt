@@ -16,7 +16,7 @@ const CLASSES: u8 = 8;
 
 // A layer over a rulebook: class after class is served from what the lower ones leave of the estate, and
 // the rulebook below divides what a class is served over its own claims.
-#[derive(Clone, Copy)]
+#[derive(Drop)]
 pub struct Classes<R> {
     below: R,
     table: ClassTable,
