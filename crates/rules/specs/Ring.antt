@@ -2,8 +2,8 @@
 use mathlib.Core.List.{List}
 use mathlib.Core.Path.{_≡_}
 use Prim.Native.Nat.{ℕ, _+_}
-use Rattle.rules.specs.Claims.{Admitted}
 use Rattle.rules.specs.Choice.{choice}
+use Rattle.rules.specs.Claims.{Admitted}
 use Rattle.rules.specs.Classes.{by-class}
 use Rattle.rules.specs.Dual.{dual}
 use Rattle.rules.specs.Laws.{Rule}
@@ -29,7 +29,7 @@ pub record RingRules (rules : ℕ → Rule) (ts : List ℕ) : Type 0 where
   pub house-3 : rules 3 ≡ dual equal-awards
   pub others : (h : ℕ) → rules (4 + h) ≡ by-class ts jefferson
 
--- what sets each of these rules apart
+-- what sets each of these rules apart; house 2 also keeps to the proportional shares
 pub record RingApart (rules : ℕ → Rule) (ts : List ℕ) : Type 0 where
   pub house-0 : Only (rules 0) InOrder
   pub house-1 : Only (rules 1) Level

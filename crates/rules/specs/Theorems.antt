@@ -73,6 +73,7 @@ pub record UnitByUnit (f : Scoring) : Type 0 where
   pub next : (e : ℕ) (cs : List ℕ) → e < sum cs → (j : ℕ) × First f cs (unit-rule f e cs) j × (unit-rule f (e + 1) cs ≡ set (unit-rule f e cs) j (getD (unit-rule f e cs) j 0 + 1))
   pub full : (e : ℕ) (cs : List ℕ) → sum cs ≤ e → unit-rule f e cs ≡ cs
 
+-- a rule and its dual
 pub record DualOf (f : Rule) : Type 0 where
   -- the creditors go without what f awards from the shortfall
   pub losses : (e : ℕ) (cs : List ℕ) → Admitted cs → minus cs (dual f e cs) ≡ f (shortfall e cs) cs
@@ -91,6 +92,7 @@ lower-claims ts t cs = sum (each cs (lower-claim ts t cs))
 abbrev pub class-share : List ℕ → ℕ → ℕ → List ℕ → ℕ
 class-share ts t e cs = min (e - lower-claims ts t cs) (sum (of-class ts t cs))
 
+-- a rule f under classes ts
 pub record ByClass (ts : List ℕ) (f : Rule) : Type 0 where
   -- a creditor gets what f awards it from its class's share, over the claims of its class
   pub award :
