@@ -17,7 +17,7 @@ use Rattle.rules.proofs.PriorityLaws.{priority-laws}
 use Rattle.other_rule.specs.Reverse.{reverse-award, reverse-priority, DualOfPriority}
 
 -- the claims of the creditors before k, of k and of those after it
-pub claims-around : (cs : List ℕ) (k : ℕ) → k < length cs → sum (take k cs) + (getD cs k 0 + sum (drop (suc k) cs)) ≡ sum cs
+claims-around : (cs : List ℕ) (k : ℕ) → k < length cs → sum (take k cs) + (getD cs k 0 + sum (drop (suc k) cs)) ≡ sum cs
 claims-around cs k lt =
     omega (arith, sumBy-take-drop (λ x. x) cs k, sumBy-drop-more (λ x. x) cs k 0 lt, ap (λ n. sum (drop n cs)) (add-one k))
 

@@ -9,8 +9,7 @@ use lib.ListN.{length, getD, length-replicate}
 use Rattle.std.specs.shelf.Lists.{sum}
 use Rattle.std.proofs.shelf.Tests.{cases-eq}
 use Rattle.rules.specs.Claims.{Admitted}
-use Rattle.rules.specs.InTurn.{Part, joined, earlier, share, in-turn, Splits}
-use Rattle.rules.specs.Laws.{Lawful}
+use Rattle.rules.specs.InTurn.{Part, joined, earlier, share, in-turn, Splits, InTurnLawful}
 use Rattle.rules.specs.Places.{plus}
 use Rattle.rules.proofs.Lists.{length-plus, getD-plus, sum-plus, sum-zeros}
 
@@ -106,7 +105,7 @@ pub left-more :
     rest ≡ e - earlier p (n + 1) cs
 left-more p n e cs part left rest before is less = rw add-one (omega (arith, ap sum is))
 
-pub in-turn-laws : (p : ℕ → Part) (n : ℕ) → Splits p n → Lawful (in-turn p n)
+pub in-turn-laws : InTurnLawful
 in-turn-laws p n s = record {
   count = λ e cs ok. length-in-turn p n s cs ok n e (omega arith);
   total = λ e cs ok. omega (arith, sum-in-turn p n s cs ok n e (omega arith), ap sum (s .whole cs ok));

@@ -16,3 +16,4 @@ pub mod UnitSteps
 pub mod StandardAwards
 pub mod DualAwards
 pub mod ClassAwards
+pub mod Quota

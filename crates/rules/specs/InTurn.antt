@@ -37,3 +37,7 @@ pub record Splits (p : ℕ → Part) (n : ℕ) : Type 0 where
   pub places : (k : ℕ) → k < n → (cs : List ℕ) → Admitted cs → length (p k .portion cs) ≡ length cs
   pub whole : (cs : List ℕ) → Admitted cs → joined p n cs ≡ cs
   pub lawful : (k : ℕ) → k < n → Lawful (p k .rule)
+
+-- whatever the split, its parts served in turn make a lawful rule
+abbrev pub InTurnLawful : Type 0
+InTurnLawful = (p : ℕ → Part) (n : ℕ) → Splits p n → Lawful (in-turn p n)

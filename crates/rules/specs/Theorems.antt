@@ -48,6 +48,10 @@ Proportionate cs hs =
     (getD cs j 0 * getD hs i 0 ≤ getD cs i 0 * (getD hs j 0 + 1)) ×
     (j < i → getD cs j 0 * getD hs i 0 < getD cs i 0 * (getD hs j 0 + 1))
 
+-- nobody falls a whole unit short of its proportional share of what is awarded
+abbrev pub LowerQuota : List ℕ → List ℕ → Type 0
+LowerQuota cs hs = (k : ℕ) → 0 < getD cs k 0 → getD cs k 0 * sum hs < (getD hs k 0 + 1) * sum cs
+
 -- a score that never rises with the units held
 abbrev pub NeverRises : Scoring → Type 0
 NeverRises f = (creditor claim held more : ℕ) → held ≤ more → more < claim → NotAbove (f creditor claim more) (f creditor claim held)
@@ -69,6 +73,7 @@ pub record UnitByUnit (f : Scoring) : Type 0 where
   pub next : (e : ℕ) (cs : List ℕ) → e < sum cs → (j : ℕ) × First f cs (unit-rule f e cs) j × (unit-rule f (e + 1) cs ≡ set (unit-rule f e cs) j (getD (unit-rule f e cs) j 0 + 1))
   pub full : (e : ℕ) (cs : List ℕ) → sum cs ≤ e → unit-rule f e cs ≡ cs
 
+-- a rule and its dual
 pub record DualOf (f : Rule) : Type 0 where
   -- the creditors go without what f awards from the shortfall
   pub losses : (e : ℕ) (cs : List ℕ) → Admitted cs → minus cs (dual f e cs) ≡ f (shortfall e cs) cs
@@ -87,6 +92,7 @@ lower-claims ts t cs = sum (each cs (lower-claim ts t cs))
 abbrev pub class-share : List ℕ → ℕ → ℕ → List ℕ → ℕ
 class-share ts t e cs = min (e - lower-claims ts t cs) (sum (of-class ts t cs))
 
+-- a rule f under classes ts
 pub record ByClass (ts : List ℕ) (f : Rule) : Type 0 where
   -- a creditor gets what f awards it from its class's share, over the claims of its class
   pub award :

@@ -6,7 +6,7 @@ use network::Fault;
 
 // House 0 goes to the first rulebook, any other to the second as the house before it. So a chain of
 // choices gives each house a rulebook of its own, and the last one serves all that are left.
-#[derive(Clone, Copy)]
+#[derive(Drop)]
 pub struct Choice<P, Q> {
     first: P,
     second: Q,

@@ -4,6 +4,7 @@ ghost use Prim.Native.Nat.{ℕ};
 ghost use lib.ListN.{length};
 ghost use Rattle.rules.specs.Claims.{Admitted};
 ghost use Rattle.rules.specs.Classes.{by-class};
+ghost use Rattle.rules.specs.InTurn.{InTurnLawful};
 ghost use Rattle.rules.specs.Theorems.{ByClass};
 use crate::class_table::ClassTable;
 use crate::in_turn::serve;
@@ -16,7 +17,7 @@ const CLASSES: u8 = 8;
 
 // A layer over a rulebook: class after class is served from what the lower ones leave of the estate, and
 // the rulebook below divides what a class is served over its own claims.
-#[derive(Clone, Copy)]
+#[derive(Drop)]
 pub struct Classes<R> {
     below: R,
     table: ClassTable,
@@ -24,10 +25,12 @@ pub struct Classes<R> {
 
 impl<R: Rulebook> Classes<R> {
     // What a creditor gets hangs on the claims of its own class and on the claims total of the lower ones,
-    // and whoever gets a unit sees all lower classes paid in full.
+    // and whoever gets a unit sees all lower classes paid in full. The layer is lawful as is any other that
+    // splits the claims into parts and serves these in turn.
     pub fn new(below: R, table: ClassTable) -> Classes<R>
         ensures made { λ r. ⌜ (r .below ≡ below) × (r .table ≡ table) ⌝ }
         ensures apart { λ _. ⌜ ((house : ℕ) → ByClass (table .classes) (R·Rulebook .awarded below house)) ⌝ }
+        ensures turns { λ _. ⌜ InTurnLawful ⌝ }
     {
         Classes { below, table }
     }

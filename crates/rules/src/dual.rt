@@ -12,7 +12,7 @@ use network::Fault;
 
 // A layer over a rulebook: each creditor gets its claim less what the rulebook below awards it from what
 // the estate lacks to meet all claims.
-#[derive(Clone, Copy)]
+#[derive(Drop)]
 pub struct Dual<R> {
     below: R,
 }

@@ -34,7 +34,7 @@ type Houses = Choice<
 
 // Priority for house 0, equal awards for 1, Jefferson for 2, the dual of equal awards for 3, and classes
 // over Jefferson for every other house.
-#[derive(Clone, Copy)]
+#[derive(Drop)]
 pub struct RingRulebook {
     houses: Houses,
 }
@@ -45,14 +45,13 @@ pub fn ring_rulebook(figures: &Figures) -> RingRulebook
     ensures rules { λ r. ⌜ RingRules (ring-rule r) (classes-of (now (figures .entry))) ⌝ }
     ensures apart { λ r. ⌜ RingApart (ring-rule r) (classes-of (now (figures .entry))) ⌝ }
 {
-    let equal_awards = UnitRule::new(EqualAwards);
-    let jefferson = UnitRule::new(Jefferson);
-    let classes = Classes::new(jefferson, ClassTable::of(figures));
+    let equal_losses = Dual::new(UnitRule::new(EqualAwards));
+    let classes = Classes::new(UnitRule::new(Jefferson), ClassTable::of(figures));
     let houses = Choice::new(
         Priority,
         Choice::new(
-            equal_awards,
-            Choice::new(jefferson, Choice::new(Dual::new(equal_awards), classes)),
+            UnitRule::new(EqualAwards),
+            Choice::new(UnitRule::new(Jefferson), Choice::new(equal_losses, classes)),
         ),
     );
     RingRulebook { houses }

@@ -14,7 +14,7 @@ use network::Fault;
 
 // Hands out the estate one unit at a time, each to the creditor that scores highest by the standard
 // among those that hold less than their claim, and to the lowest-numbered of equals.
-#[derive(Clone, Copy)]
+#[derive(Drop)]
 pub struct UnitRule<S> {
     standard: S,
 }

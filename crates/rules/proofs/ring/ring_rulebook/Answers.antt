@@ -12,6 +12,7 @@ use Rattle.rules.specs.declared.ring.RingRulebook.{RingRulebook}
 use Rattle.rules.proofs.ClassAwards.{classes-apart}
 use Rattle.rules.proofs.DualAwards.{dual-only}
 use Rattle.rules.proofs.OrderlyAwards.{priority-only}
+use Rattle.rules.proofs.Quota.{jefferson-quota}
 use Rattle.rules.proofs.StandardAwards.{equal-only, jefferson-only}
 use Rattle.rules.proofs.StandardScores.{equal-positive, jefferson-positive}
 use Rattle.rules.proofs.UnitLaws.{unit-laws}
@@ -32,6 +33,7 @@ module _ (r : RingRulebook) (ts : List ℕ) where
     house-0 = priority-only;
     house-1 = equal-only;
     house-2 = jefferson-only;
+    quota-2 = jefferson-quota;
     house-3 = dual-only equal-awards (unit-laws equal-score equal-positive) Level equal-only;
     others = classes-apart ts jefferson low (unit-laws jefferson-score jefferson-positive);
   }
