@@ -5,6 +5,7 @@ pub mod Bytes
 pub mod Runs
 pub mod Files
 pub mod Puts
+pub mod Entries
 pub mod Steps
 pub mod Walks
 pub mod Reaches
