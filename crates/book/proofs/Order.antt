@@ -1,13 +1,13 @@
 -- Which calls are made on a book, and in what order, decides nothing.
 use Prim.Native.Nat.{ℕ, _+_, _-_, _≤_, _<_}
 use mathlib.Core.Path.{_≡_, refl, sym, ap, subst, _∙_}
-use mathlib.Core.List.{List, []}
+use mathlib.Core.List.{List}
 use mathlib.Core.Logic.{inl, inr, _↔_}
 use mathlib.Core.Bool.{Bool, true, false, cond, _||_}
 use native.Mathlib.Omega.{arith}
 use native.Mathlib.Nat.{le-antisymm, le-of-eq}
 use lib.Dec.{ltb, leb, eqb}
-use lib.ListN.{getD, take}
+use lib.ListN.{getD}
 use Rattle.std.specs.declared.option.Option.{Option}
 use Rattle.std.specs.declared.option.Option.the-variants.{Some, None}
 use Rattle.std.specs.declared.result.Result.{Result}
@@ -21,9 +21,8 @@ use Rattle.network.specs.Faults.{of-pair}
 use Rattle.network.specs.declared.draft.Draft.{Draft}
 use Rattle.network.specs.declared.figures.Figures.{Figures}
 use Rattle.network.specs.Entries.{member-at, claim-at}
-use Rattle.clearing.specs.Networks.{Network, Division, Payments, LawfulDivision, Least, AtMost, Equal, SomeBelow, total, units-of-claims, units-paid, outlay, owed, cash, due}
+use Rattle.clearing.specs.Networks.{Network, Division, Payments, LawfulDivision, Least, AtMost, Equal, SomeBelow, units-paid, outlay, owed, cash}
 use Rattle.clearing.specs.Settling.{Closes, nothing, moved, paid-more, settled, round, rounds, next}
-use Rattle.clearing.specs.Promises.{Sound, Tracked}
 use Rattle.clearing.proofs.Totals.{total-eq}
 use Rattle.clearing.proofs.Growth.{Good, Grown, good-nothing, stay, pay-grows, settled-grows, round-grows, rounds-good}
 use Rattle.clearing.proofs.Closing.{paid-step, paid-cap}
@@ -34,8 +33,8 @@ use Rattle.book.specs.Tables.{cells, network-of, Capped}
 use Rattle.book.specs.Rulebooks.{Meaning, LawfulMeaning, claims-on, division}
 use Rattle.book.specs.Views.{net-of, payments-of, division-of, due-of, receded-in, outlay-of, cash-of}
 use Rattle.book.specs.Rests.{Rests}
-use Rattle.book.specs.Calls.{Opens, Pays, Settles, Ends, ShowsNext}
-use Rattle.book.specs.Lives.{Step, Works, rest, then, paying, Life, Moment, Promised, EqualDrafts, EqualSheets, TwoLives, OrderDecidesNothing}
+use Rattle.book.specs.Calls.{Opens, Pays, Settles, Ends}
+use Rattle.book.specs.Lives.{Step, Works, rest, then, paying, Life, Moment, Promised, EqualDrafts, OrderDecidesNothing}
 use Rattle.book.specs.declared.book.Book.{Book}
 use Rattle.book.specs.declared.sheet.Sheet.{Sheet}
 use Rattle.book.specs.declared.call.Call.{Call}

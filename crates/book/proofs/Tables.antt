@@ -8,9 +8,7 @@ use native.Mathlib.Omega.{arith}
 use native.Mathlib.Nat.{le-trans, le-of-eq}
 use lib.Dec.{eqb}
 use lib.ListN.{length, getD, set, take, drop, replicate}
-use Rattle.std.specs.declared.option.Option.the-variants.{Some, None}
 use Rattle.std.specs.declared.result.Result.{Result}
-use Rattle.std.specs.declared.result.Result.the-variants.{Ok, Err}
 use Rattle.std.proofs.shelf.Lists.{getD-set-same, getD-set-other, getD-past, length-take-le, drop-replicate}
 use Rattle.std.proofs.shelf.Tests.{cases-eq, cases-lt, cond-true, cond-false, eq-eqb, ne-eqb}
 use Rattle.network.specs.declared.fault.Fault.{Fault}
@@ -20,7 +18,7 @@ use Rattle.rules.specs.Claims.{awards-fault}
 use Rattle.rules.proofs.Acceptance.{filled}
 use Rattle.clearing.specs.Networks.{Network, LawfulDivision, AtMost, total, estate}
 use Rattle.clearing.proofs.Totals.{total-le, total-eq, total-none}
-use Rattle.book.specs.Tables.{cells, network-of, Capped, Solvent}
+use Rattle.book.specs.Tables.{cells, Capped, Solvent}
 use Rattle.book.specs.Rulebooks.{Meaning, LawfulMeaning, claims-on}
 use Rattle.book.specs.Views.{DueRow, net-of, payments-of, division-of, due-of, estate-of}
 use Rattle.book.specs.declared.book.Book.{Book}

@@ -1,13 +1,11 @@
 -- The turns of a round: each member settles, or is passed over.
-use Prim.Native.Nat.{ℕ, zero, suc, _+_, _-_, _*_, _≤_, _<_}
+use Prim.Native.Nat.{ℕ, zero, suc, _+_, _-_, _≤_, _<_}
 use mathlib.Core.Path.{_≡_, refl, sym, ap, ap₂, subst, _∙_}
 use mathlib.Core.Logic.{inl, inr}
 use mathlib.Core.Bool.{Bool, true, false, cond}
 use native.Mathlib.Omega.{arith}
 use native.Mathlib.Nat.{le-refl, le-trans}
-use lib.Dec.{eqb, ltb, leb}
-use Rattle.std.specs.declared.option.Option.the-variants.{Some, None}
-use Rattle.std.specs.declared.result.Result.{Result}
+use lib.Dec.{eqb, ltb}
 use Rattle.std.specs.declared.result.Result.the-variants.{Ok, Err}
 use Rattle.std.proofs.shelf.Tests.{cases-lt, cases-eq, cases-bool, both-ways, cond-both, cond-true, cond-false, eq-eqb, ne-eqb, eqb-true, lt-ltb}
 use Rattle.network.specs.declared.fault.Fault.{Fault}
@@ -19,7 +17,7 @@ use Rattle.clearing.proofs.Respects.{receded-eq, settle-below-eq}
 use Rattle.clearing.proofs.Loops.{settle-more}
 use Rattle.book.specs.Tables.{network-of}
 use Rattle.book.specs.Rulebooks.{Meaning, division}
-use Rattle.book.specs.Views.{net-of, payments-of, receded-in}
+use Rattle.book.specs.Views.{payments-of, receded-in}
 use Rattle.book.specs.Calls.{Settles}
 use Rattle.book.specs.declared.book.Book.{Book}
 use Rattle.book.proofs.Cases.{settle-recedes, settle-passes}

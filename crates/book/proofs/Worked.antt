@@ -1,11 +1,10 @@
 -- The settled examples of books.
-use Prim.Native.Nat.{ℕ, zero, suc, _+_, _-_, _≤_, _<_, min}
-use mathlib.Core.Path.{_≡_, refl, sym, ap, ap₂, subst, _∙_}
+use Prim.Native.Nat.{ℕ, zero, suc, _+_, _-_, _≤_, _<_}
+use mathlib.Core.Path.{_≡_, refl, sym, ap, ap₂, _∙_}
 use mathlib.Core.List.{List, [], _∷_}
-use mathlib.Core.Logic.{inl, inr}
-use mathlib.Core.Bool.{Bool, true, false, cond, _||_}
+use mathlib.Core.Bool.{Bool, true, false, _||_}
 use native.Mathlib.Omega.{arith}
-use lib.Dec.{ltb, leb, eqb}
+use lib.Dec.{ltb, leb}
 use lib.ListN.{length, getD}
 use Rattle.std.specs.declared.option.Option.the-variants.{Some, None}
 use Rattle.std.specs.declared.result.Result.the-variants.{Ok}
@@ -16,19 +15,18 @@ use Rattle.network.specs.declared.fault.Cause.the-variants.{AboveDue, Receded}
 use Rattle.network.specs.declared.fault.Layer.the-variants.{Book as BookLayer}
 use Rattle.network.specs.declared.figures.Figures.{Figures}
 use Rattle.network.specs.declared.figures.Member.{Member}
-use Rattle.network.specs.Entries.{member-at, claim-at}
+use Rattle.network.specs.Entries.{claim-at}
 use Rattle.network.specs.Faults.{of-member, of-pair}
 use Rattle.rules.specs.Dual.{dual}
 use Rattle.rules.specs.Examples.{Examples as RuleExamples}
 use Rattle.rules.specs.Priority.{priority}
-use Rattle.rules.specs.Unit.{equal-awards}
 use Rattle.rules.proofs.PriorityLaws.{priority-laws}
-use Rattle.clearing.specs.Networks.{Network, Division, Payments, LawfulDivision, Clearing, total, any, owed, estate, outlay, cash, due}
+use Rattle.clearing.specs.Networks.{Network, Division, Payments, LawfulDivision, Clearing, total, any, owed, estate, outlay}
 use Rattle.clearing.specs.Settling.{nothing}
-use Rattle.clearing.proofs.Totals.{any-decides, total-eq, total-none, total-parts}
+use Rattle.clearing.proofs.Totals.{any-decides, total-none, total-parts}
 use Rattle.clearing.proofs.Moments.{total-same}
 use Rattle.clearing.proofs.Respects.{any-eq}
-use Rattle.book.specs.Tables.{cells, network-of, Capped}
+use Rattle.book.specs.Tables.{cells, network-of}
 use Rattle.book.specs.Rulebooks.{Meaning, LawfulMeaning, claims-on, division}
 use Rattle.book.specs.Views.{payments-of, due-of, receded-in}
 use Rattle.book.specs.Calls.{Opens, Settles, pay-fault, settle-fault}

@@ -9,7 +9,6 @@ use Rattle.std.proofs.shelf.Lists.{take-more-set, take-all}
 use Rattle.book.specs.Rulebooks.{Meaning}
 use Rattle.book.specs.Lives.{Step, Works, rest, then, calls-of}
 use Rattle.book.specs.declared.book.Book.{Book}
-use Rattle.book.specs.declared.call.Call.{Call}
 use Rattle.book.specs.declared.call.Answer.{Answer}
 use Rattle.book.specs.declared.call.Task.{Task}
 

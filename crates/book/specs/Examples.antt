@@ -9,10 +9,8 @@ use Rattle.std.specs.declared.result.Result.the-variants.{Ok}
 use Rattle.network.specs.declared.draft.Draft.{Draft}
 use Rattle.network.specs.declared.fault.Cause.the-variants.{AboveDue, Receded}
 use Rattle.network.specs.declared.fault.Layer.the-variants.{Book as BookLayer}
-use Rattle.network.specs.declared.figures.Member.{Member}
 use Rattle.network.specs.Entries.{member-at, claim-at}
 use Rattle.network.specs.Faults.{of-member, of-pair}
-use Rattle.network.specs.Limits.{nobody}
 use Rattle.rules.specs.Dual.{dual}
 use Rattle.rules.specs.Examples.{Examples as RuleExamples}
 use Rattle.rules.specs.Priority.{priority}

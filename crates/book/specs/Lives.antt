@@ -12,9 +12,8 @@ use Rattle.std.specs.declared.result.Result.{Result}
 use Rattle.std.specs.declared.result.Result.the-variants.{Ok, Err}
 use Rattle.network.specs.declared.fault.Fault.{Fault}
 use Rattle.network.specs.declared.draft.Draft.{Draft}
-use Rattle.network.specs.declared.figures.Figures.{Figures}
 use Rattle.network.specs.Entries.{member-at, claim-at}
-use Rattle.clearing.specs.Networks.{Network, Division, Payments, Least, Equal, SomeBelow, total, units-of-claims}
+use Rattle.clearing.specs.Networks.{Payments, Least, Equal, SomeBelow, total, units-of-claims}
 use Rattle.clearing.specs.Settling.{moved}
 use Rattle.clearing.specs.Promises.{Sound, Tracked}
 use Rattle.book.specs.Tables.{cells, network-of}

@@ -7,7 +7,7 @@ use native.Mathlib.Omega.{arith}
 use native.Mathlib.Nat.{le-refl, le-trans, le-antisymm, le-of-eq}
 use lib.Dec.{eqb}
 use Rattle.std.specs.Orderings.{Decides}
-use Rattle.std.proofs.shelf.Tests.{cond-both, cond-true, cond-false, eq-eqb, cases-bool, cases-lt, cases-order, both-ways}
+use Rattle.std.proofs.shelf.Tests.{cond-both, cond-true, cond-false, eq-eqb, cases-bool, cases-lt, both-ways}
 use Rattle.std.proofs.shelf.Ways.{decides-eqb, decides-not}
 use Rattle.clearing.specs.Networks.{Network, Division, Payments, LawfulDivision, AtMost, Clearing, Least, any, units-of-claims, units-paid, estate, outlay, due}
 use Rattle.clearing.specs.Settling.{Closes, moved, receded, settled, settle, settle-below, round, rounds}
@@ -115,12 +115,3 @@ module _ (N : Network) (D : Division) (law : LawfulDivision N D) where
         clearing = rest-clears F good (rest-covers F good (c .resting));
         least = λ Q q. good .under Q (λ i j a b. le-of-eq (sym (q i j a b)));
       }
-
-  -- the number of rounds that close makes is determined
-  pub closes-once : (P : Payments) (r s : ℕ) → Closes N D P r → Closes N D P s → r ≡ s
-  closes-once P r s c d =
-      elim (cases-order r s) [
-        | inl e ↦ e
-        | inr (inl l) ↦ absurd (both-ways (moved N (rounds N D r P) (rounds N D (suc r) P)) (c .resting) (d .moving r l))
-        | inr (inr l) ↦ absurd (both-ways (moved N (rounds N D s P) (rounds N D (suc s) P)) (d .resting) (c .moving s l))
-      ]

@@ -1,7 +1,7 @@
 -- What holds of payments that keep the invariant: the promises of each moment of a life, and of equal networks.
-use Prim.Native.Nat.{ℕ, zero, suc, _+_, _-_, _≤_, _<_}
+use Prim.Native.Nat.{ℕ, zero, suc, _≤_, _<_}
 use mathlib.Core.Path.{_≡_, refl, sym, ap, ap₂, _∙_}
-use mathlib.Core.Logic.{_⊎_, inl, inr, _↔_}
+use mathlib.Core.Logic.{inl, inr}
 use mathlib.Core.Bool.{Bool, true, false, cond}
 use native.Mathlib.Omega.{arith}
 use native.Mathlib.Nat.{le-of-eq}
@@ -11,7 +11,7 @@ use Rattle.std.specs.declared.option.Option.{Option}
 use Rattle.std.specs.declared.option.Option.the-variants.{Some, None}
 use Rattle.std.proofs.shelf.Tests.{or-parts, or-from, cases-bool, cases-lt, both-ways}
 use Rattle.clearing.specs.Networks.{Network, Division, Payments, LawfulDivision, Equal, SomeBelow, Clearing, Least, total, any, owed, estate, outlay, cash, due}
-use Rattle.clearing.specs.Settling.{first, or-else, nothing, settle, would-pay, next, rounds}
+use Rattle.clearing.specs.Settling.{first, or-else, nothing, settle, would-pay, rounds}
 use Rattle.clearing.specs.Promises.{Sound, Tracked, Least-exists}
 use Rattle.clearing.proofs.Totals.{any-decides, total-le, total-eq, total-add, total-swap, total-sub}
 use Rattle.clearing.proofs.Growth.{Covers, Good, good-nothing, settle-grows}

@@ -1,21 +1,19 @@
 -- Settling and closing do alike to payments with equal entries: what stands outside the members is never read.
-use Prim.Native.Nat.{ℕ, zero, suc, _+_, _-_, _≤_, _<_}
+use Prim.Native.Nat.{ℕ, zero, suc, _+_, _≤_, _<_}
 use mathlib.Core.Path.{_≡_, refl, sym, ap, ap₂, subst, _∙_}
-use mathlib.Core.Logic.{_⊎_, inl, inr}
+use mathlib.Core.Logic.{inl, inr}
 use mathlib.Core.Bool.{Bool, true, false, cond, not, _&&_, _||_}
 use native.Mathlib.Omega.{arith}
-use native.Mathlib.Numerals.{add-one}
 use native.Mathlib.Nat.{le-refl, le-trans, le-of-eq}
-use lib.Dec.{ltb, leb, eqb}
-use Rattle.std.proofs.shelf.Tests.{cases-lt, cases-bool, cases-eq, cond-true, cond-false, eq-eqb, ne-eqb, eqb-false, not-true, le-ltb, and-left, or-left, or-right, or-from, both-ways}
-use Rattle.clearing.specs.Networks.{Network, Division, Payments, LawfulDivision, AtMost, Equal, Clearing, Least, any, total, estate, outlay, cash, due}
-use Rattle.clearing.specs.Settling.{moved, receded, settled, settle, settle-below, round, would-pay, rounds}
-use Rattle.clearing.proofs.Growth.{Covers, Good}
+use lib.Dec.{ltb, eqb}
+use Rattle.std.proofs.shelf.Tests.{cases-bool, cases-eq, cond-true, cond-false, eq-eqb, ne-eqb}
+use Rattle.clearing.specs.Networks.{Network, Division, Payments, Equal, Least, any, estate, due}
+use Rattle.clearing.specs.Settling.{moved, receded, settled, settle, settle-below, round, would-pay}
+use Rattle.clearing.proofs.Growth.{Good}
 use Rattle.std.specs.Orderings.{Decides}
 use Rattle.std.proofs.shelf.Ways.{same-from-decides, decides-eqb, decides-not}
 use Rattle.clearing.proofs.Totals.{any-decides, total-eq}
-use Rattle.clearing.proofs.Growth.{steady}
-use Rattle.clearing.proofs.Closing.{moved-decides, unmoved}
+use Rattle.clearing.proofs.Closing.{moved-decides}
 
 pub any-eq : (n : ℕ) (p q : ℕ → Bool) → ((k : ℕ) → k < n → p k ≡ q k) → any n p ≡ any n q
 any-eq zero p q h = refl
@@ -39,41 +37,6 @@ module _ (N : Network) where
   moved-eq P P′ Q Q′ e f =
       any-eq (N .members) (λ i. any (N .members) (λ j. not (eqb (P i j) (Q i j)))) (λ i. any (N .members) (λ j. not (eqb (P′ i j) (Q′ i j))))
       (λ i a. any-eq (N .members) (λ j. not (eqb (P i j) (Q i j))) (λ j. not (eqb (P′ i j) (Q′ i j))) (λ j b. ap₂ (λ x y. not (eqb x y)) (e i j a b) (f i j a b)))
-
-  pub differ : (P Q : Payments) (i j : ℕ) → i < N .members → j < N .members → P i j < Q i j → moved N P Q ≡ true
-  differ P Q i j a b l = moved-decides N P Q .1 (i, a, (j, b, λ e. omega arith))
-
-  -- units moved over two steps that lower nothing, if they moved in either
-  pub moved-join : (P Q R : Payments) → AtMost N P Q → AtMost N Q R → moved N P R ≡ (moved N P Q || moved N Q R)
-  moved-join P Q R h k =
-      elim (cases-bool (moved N P Q)) [
-        | inl e ↦
-            (let w = moved-decides N P Q .0 e in
-            let v = w .2 in
-            differ P R (w .0) (v .0) (w .1) (v .1) (omega (arith, h (w .0) (v .0) (w .1) (v .1), k (w .0) (v .0) (w .1) (v .1), v .2))
-            ∙ sym (or-left (moved N P Q) (moved N Q R) e))
-        | inr e ↦
-            elim (cases-bool (moved N Q R)) [
-              | inl f ↦
-                  (let w = moved-decides N Q R .0 f in
-                  let v = w .2 in
-                  differ P R (w .0) (v .0) (w .1) (v .1) (omega (arith, h (w .0) (v .0) (w .1) (v .1), k (w .0) (v .0) (w .1) (v .1), v .2))
-                  ∙ sym (or-right (moved N P Q) (moved N Q R) f))
-              | inr f ↦ still e f ∙ sym (or-from (moved N P Q) (moved N Q R) e f)
-            ]
-      ]
-    where
-      still : moved N P Q ≡ false → moved N Q R ≡ false → moved N P R ≡ false
-      still e f =
-          elim (cases-bool (moved N P R)) [
-            | inr g ↦ g
-            | inl g ↦
-                (let w = moved-decides N P R .0 g in
-                let v = w .2 in
-                let i = w .0 in
-                let j = v .0 in
-                absurd (omega (arith, v .2, h i j (w .1) (v .1), k i j (w .1) (v .1), unmoved N P Q e i j (w .1) (v .1), unmoved N Q R f i j (w .1) (v .1))))
-          ]
 
 module _ (N : Network) (D : Division) where
   pub estate-eq : (P Q : Payments) → Equal N P Q → (i : ℕ) → i < N .members → estate N P i ≡ estate N Q i
@@ -110,12 +73,6 @@ module _ (N : Network) (D : Division) where
         clearing = λ i j a b. sym (e i j a b) ∙ l .clearing i j a b ∙ due-eq P Q e i j a b;
         least = λ R r i j a b. le-trans (le-of-eq (sym (e i j a b))) (l .least R r i j a b);
       }
-
-  pub settle-below-more : (m : ℕ) (P : Payments) → settle-below N D (m + 1) P ≡ settle N D (settle-below N D m P) m
-  settle-below-more m P = ap (λ k. settle-below N D k P) (add-one m)
-
-  pub rounds-more : (r : ℕ) (P : Payments) → rounds N D (r + 1) P ≡ round N D (rounds N D r P)
-  rounds-more r P = ap (λ k. rounds N D k P) (add-one r)
 
   -- what a settle changes stands in its row
   pub moved-settled : (P : Payments) (m : ℕ) → m < N .members → moved N P (settled N D P m) ≡ any (N .members) (λ j. not (eqb (P m j) (due N D P m j)))

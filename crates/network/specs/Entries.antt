@@ -1,6 +1,6 @@
 -- The entries of a network's figures, and what each call that enters one makes of them.
 use mathlib.Core.Path.{_≡_}
-use mathlib.Core.List.{List, []}
+use mathlib.Core.List.{[]}
 use Prim.Native.Nat.{ℕ}
 use lib.ListN.{getD, set}
 use Rattle.network.specs.declared.figures.Member.{Member}

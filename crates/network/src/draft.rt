@@ -1,8 +1,6 @@
 // The draft, in which a network's figures are entered before a book is opened on them.
 ghost use mathlib.Core.Path.{_≡_};
-ghost use mathlib.Core.List.{[]};
-ghost use Prim.Native.Nat.{_<_, _≤_};
-ghost use lib.ListN.{getD, set};
+ghost use Prim.Native.Nat.{_<_};
 ghost use Rattle.network.specs.Answers.{Gives};
 ghost use Rattle.network.specs.Entries.{MemberSet, ClaimSet, Blank};
 ghost use Rattle.network.specs.Refusals.{member-fault, claim-fault};

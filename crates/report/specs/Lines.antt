@@ -3,7 +3,6 @@ use mathlib.Core.List.{List, [], _∷_, _++_}
 use Prim.Native.Nat.{ℕ}
 use lib.Chars.{codes}
 use Rattle.std.specs.Written.{decimal}
-use Rattle.network.specs.declared.fault.Fault.{Fault}
 use Rattle.network.specs.Faults.{number-of, name-of}
 use Rattle.report.specs.declared.line.Line.{Line}
 use Rattle.report.specs.declared.line.Line.the-variants.{Paid, Equity, Default, Rounds, Fault as Refusal, TooLong}

@@ -1,5 +1,5 @@
-use mathlib.Core.Bool.{true, false, not}
-use mathlib.Core.Path.{_≡_, refl, sym, _∙_}
+use mathlib.Core.Bool.{false}
+use mathlib.Core.Path.{refl, sym, _∙_}
 use Rattle.std.proofs.shelf.Equals.{matches-decides}
 use Rattle.std.proofs.shelf.Tests.{both-ways, not-true, not-false}
 use Rattle.book.proofs.compare.equal_sheets.Needs as need

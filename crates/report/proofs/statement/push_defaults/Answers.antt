@@ -1,5 +1,5 @@
-use mathlib.Core.Bool.{false, cond}
-use mathlib.Core.List.{[], _∷_, _++_}
+use mathlib.Core.Bool.{false}
+use mathlib.Core.List.{_++_}
 use mathlib.Core.Path.{refl, ap}
 use lib.ListN.{getD}
 use Rattle.std.proofs.shelf.Tests.{cond-true, cond-false}

@@ -1,4 +1,3 @@
-use Prim.Native.Nat.{ℕ}
 use mathlib.Core.Path.{refl}
 use native.Mathlib.Omega.{arith}
 use Rattle.book.proofs.Resting.{rounds-again, rounds-less, rounds-fit, rounds-rest}
