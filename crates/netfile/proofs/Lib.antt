@@ -8,6 +8,7 @@ pub mod Puts
 pub mod Entries
 pub mod Steps
 pub mod Walks
+pub mod Clear
 pub mod Reaches
 pub mod Unique
 pub mod RoundTrips

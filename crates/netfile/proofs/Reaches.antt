@@ -1,85 +1,29 @@
 -- The walk through a network's file passes every record of it, and reads the network's entries.
 use mathlib.Core.Path.{_≡_, refl, sym, ap, subst, _∙_}
-use mathlib.Core.List.{List, [], _∷_, _++_}
-use mathlib.Core.Logic.{_⊎_, inl, inr, ⊎-elim, _≢_}
-use mathlib.Core.Bool.{Bool, true, false, cond, not, _||_}
-use Prim.Native.Nat.{ℕ, zero, suc, _+_, _-_, _*_, _/_, _%_, _<_, _≤_}
+use mathlib.Core.List.{List, _++_}
+use mathlib.Core.Logic.{⊎-elim}
+use mathlib.Core.Bool.{cond}
+use Prim.Native.Nat.{ℕ, zero, suc, _+_, _/_, _%_, _<_, _≤_}
 use native.Mathlib.Numerals.{add-one}
 use native.Mathlib.Omega.{arith}
-use lib.ListN.{length, getD, take, drop}
-use lib.Dec.{leb, ltb, eqb}
-use Rattle.std.specs.declared.option.Option.{Option}
-use Rattle.std.specs.declared.option.Option.the-variants.{Some, None}
+use lib.ListN.{length, getD, drop}
+use lib.Dec.{ltb, eqb}
 use Rattle.std.proofs.shelf.Lists.{append-assoc, append-nil, length-append, drop-at}
-use Rattle.std.proofs.shelf.Tests.{cases-lt, cases-eq, lt-leb, le-ltb, lt-ltb, eq-eqb, ne-eqb, or-from, not-from-true, cond-true, cond-false}
-use Rattle.network.specs.declared.fault.Fault.{Fault}
-use Rattle.network.specs.declared.fault.Cause.the-variants.{ClaimOrder}
+use Rattle.std.proofs.shelf.Tests.{cases-eq, le-ltb, lt-ltb, eq-eqb, ne-eqb, cond-true, cond-false}
 use Rattle.network.specs.declared.figures.Figures.{Figures}
 use Rattle.network.specs.declared.figures.Member.{Member as Entry}
 use Rattle.network.specs.Entries.{member-at}
-use Rattle.network.specs.Refusals.{member-fault, claim-fault}
 use Rattle.netfile.specs.declared.due.Due.{Due}
-use Rattle.netfile.specs.declared.due.Due.the-variants.{Network, Member, Claim, Nothing}
-use Rattle.netfile.specs.Records.{file-fault, kind, outside, record-length, record-fault}
-use Rattle.netfile.specs.Files.{run, four-bytes, number-at, claim-of, network-record, member-record, member-bytes, claim-bytes, claim-record, members-to, claims-to, end-record, file-of}
-use Rattle.netfile.specs.Checks.{draft-or, place-of, due-fault}
+use Rattle.netfile.specs.declared.due.Due.the-variants.{Member, Claim, Nothing}
+use Rattle.netfile.specs.Files.{run, number-at, claim-of, network-record, member-bytes, claim-record, members-to, claims-to, end-record, file-of}
+use Rattle.netfile.specs.Checks.{place-of}
 use Rattle.netfile.specs.Reads.{due-after}
 use Rattle.netfile.proofs.Bytes.{number-of-bytes}
+use Rattle.netfile.proofs.Clear.{network-clear, member-clear, claim-clear, end-clear}
+use Rattle.netfile.proofs.Entries.{entry}
 use Rattle.netfile.proofs.Files.{members-more, claims-more, claims-skip}
 use Rattle.netfile.proofs.Passing.{positive}
-use Rattle.netfile.proofs.Walks.{Walked, walk-starts, walk-on, spot, past, written}
-
--- the checks of a record that is whole and due
-whole-passes :
-    (low high byte : ℕ) (t : List ℕ) (body : Option Fault) → outside 1 4 (kind t) ≡ false → outside low high (kind t) ≡ false →
-    record-length t ≤ length t → body ≡ None → record-fault low high byte t body ≡ None
-whole-passes low high byte t body known due long ok =
-    let some : eqb (length t) 0 ≡ false = ne-eqb (length t) 0 (λ (y : length t ≡ 0). omega arith) in
-    rw (some, known, due, le-ltb (length t) (record-length t) long) ok
-
-network-clear : (n byte : ℕ) (R : List ℕ) → due-fault n Network byte (network-record n ++ R) ≡ None
-network-clear n byte R =
-    whole-passes 1 1 byte (network-record n ++ R) _ refl refl (omega arith) (cond-false _ _ _ (not-from-true _ (eq-eqb n n refl)))
-
-member-fits : (n k c x y : ℕ) → y ≡ x → k < n → c ≤ 7 → x ≤ 1000000 → member-fault n k c y ≡ None
-member-fits n k c x y e h i j = rw (e, lt-leb n k h, le-ltb 7 c i, le-ltb 1000000 x j)
-
-member-clear : (f : Figures) (k byte : ℕ) (R : List ℕ) → k < f .n → due-fault (f .n) (Member k) byte (member-bytes f k ++ R) ≡ None
-member-clear f k byte R h =
-    let m = member-at f k in
-    let fits = f .fit k in
-    let ok = member-fits (f .n) k (m .class) (m .endowment) _ (number-of-bytes (m .endowment) (omega (arith, fits .1))) h (fits .0) (fits .1) in
-    whole-passes 2 2 byte (member-bytes f k ++ R) _ refl refl (omega arith)
-    (cond-false _ _ _ (not-from-true _ (eq-eqb k k refl)) ∙ ap (λ v. draft-or byte v None) ok)
-
-claim-fits : (n i j x y : ℕ) → y ≡ x → i < n → j < n → (i ≡ j → ⊥) → x ≤ 10000 → claim-fault n i j y ≡ None
-claim-fits n i j x y e h k ne l = rw (e, lt-leb n i h, lt-leb n j k, ne-eqb i j ne, le-ltb 10000 x l)
-
-in-order : (y z least byte : ℕ) → 0 < y → least ≤ z → cond (eqb y 0 || ltb z least) (Some (file-fault ClaimOrder byte)) None ≡ None
-in-order y z least byte h k = cond-false _ _ _ (or-from (eqb y 0) (ltb z least) (ne-eqb y 0 (λ (e : y ≡ 0). omega arith)) (le-ltb z least k))
-
-both : (byte : ℕ) (v next : Option Fault) → v ≡ None → next ≡ None → draft-or byte v next ≡ None
-both byte v next e h = rw e h
-
-claim-clear :
-    (f : Figures) (least q byte : ℕ) (R : List ℕ) → least ≤ q → 0 < claim-of f q →
-    due-fault (f .n) (Claim least) byte (claim-record (q / 32) (q % 32) (claim-of f q) ++ R) ≡ None
-claim-clear f least q byte R h some =
-    let i = q / 32 in
-    let j = q % 32 in
-    let x = claim-of f q in
-    let allowed = f .allowed i j in
-    let i-small : i < f .n = ⊎-elim (λ (y : i < f .n). y) (λ (y : f .n ≤ i). absurd (let z = allowed (inr (inl y)) in omega arith)) (cases-lt i (f .n)) in
-    let j-small : j < f .n = ⊎-elim (λ (y : j < f .n). y) (λ (y : f .n ≤ j). absurd (let z = allowed (inr (inr y)) in omega arith)) (cases-lt j (f .n)) in
-    let units = number-of-bytes x (omega (arith, f .small i j)) in
-    let ok = claim-fits (f .n) i j x _ units i-small j-small (λ (e : i ≡ j). let z = allowed (inl e) in omega arith) (f .small i j) in
-    let place : least ≤ 32 * i + j = omega arith in
-    let y : ℕ = number-at (claim-record i j x ++ R) 3 in
-    let order = in-order y (32 * i + j) least byte (omega (arith, units)) place in
-    whole-passes 3 4 byte (claim-record i j x ++ R) _ refl refl (omega arith) (both byte (claim-fault (f .n) i j y) _ ok order)
-
-end-clear : (n least byte : ℕ) (R : List ℕ) → due-fault n (Claim least) byte (end-record ++ R) ≡ None
-end-clear n least byte R = whole-passes 3 4 byte (end-record ++ R) _ refl refl (omega arith) refl
+use Rattle.netfile.proofs.Walks.{Walked, walk-starts, walk-on, spot, written}
 
 same-as : {X : Type 0} (F : ℕ → X) (k : ℕ) (x : X) → written F k x k ≡ x
 same-as F k x = cond-true _ _ _ (eq-eqb k k refl)
@@ -132,10 +76,9 @@ module _ (s : List ℕ) (f : Figures) where
       At s f (due-after (f .n) (Member k) R) (b + 8) (k + 1) 0
   at-member k b R h e at =
       let t = member-bytes f k ++ R in
-      let new : Entry = record { house = getD t 2 0; class = getD t 3 0; endowment = number-at t 4 } in
-      let same : new ≡ member-at f k =
-      ap (λ (x : ℕ). let m : Entry = record { house = member-at f k .house; class = member-at f k .class; endowment = x } in m)
-      (number-of-bytes (member-at f k .endowment) (omega (arith, f .fit k .1))) in
+      let m = member-at f k in
+      let new = entry (getD t 2 0) (getD t 3 0) (number-at t 4) in
+      let same : new ≡ m = ap (entry (m .house) (m .class)) (number-of-bytes (m .endowment) (omega (arith, f .fit k .1))) in
       record {
         members = written (at .members) k new;
         claims = at .claims;

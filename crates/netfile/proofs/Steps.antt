@@ -3,7 +3,7 @@ use mathlib.Core.Path.{_≡_, refl, sym, ap, subst, _∙_}
 use mathlib.Core.List.{List, [], _∷_, _++_}
 use mathlib.Core.Logic.{inl, inr, ⊎-elim}
 use mathlib.Core.Bool.{true, false, cond}
-use Prim.Native.Nat.{ℕ, _+_, _-_, _*_, _/_, _%_, _<_, _≤_}
+use Prim.Native.Nat.{ℕ, _+_, _-_, _/_, _%_, _<_, _≤_}
 use native.Mathlib.Omega.{arith}
 use lib.ListN.{length, getD, take, drop}
 use lib.Dec.{eqb, ltb}
@@ -22,7 +22,7 @@ use Rattle.netfile.specs.Files.{run, number-at, claim-of, network-record, memb
 use Rattle.netfile.specs.Checks.{place-of, due-fault}
 use Rattle.netfile.specs.Reads.{due-after, Entered}
 use Rattle.netfile.specs.Loads.{Begins}
-use Rattle.netfile.proofs.Bytes.{Bytes, bytes-at, each, take-each}
+use Rattle.netfile.proofs.Bytes.{Bytes, bytes-at, take-each}
 use Rattle.netfile.proofs.Entries.{entry, member-entered, member-kept, claims-kept, place-divides, claim-entered, claim-kept}
 use Rattle.netfile.proofs.Files.{claim-none, members-more, claims-more}
 use Rattle.netfile.proofs.Passing.{network-passes, member-passes, claim-passes, lies}

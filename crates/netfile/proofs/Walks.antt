@@ -1,12 +1,14 @@
 -- A walk through a byte string, record by record, for as long as the checks pass. The bytes fix where it stops.
 use mathlib.Core.Path.{_≡_, refl, sym, ap, _∙_}
-use mathlib.Core.List.{List, []}
+use mathlib.Core.List.{List}
 use mathlib.Core.Bool.{cond}
 use Prim.Native.Nat.{ℕ, zero, suc, _+_}
-use lib.ListN.{getD, drop}
+use native.Mathlib.Omega.{arith}
+use lib.ListN.{length, getD, drop}
 use lib.Dec.{eqb}
 use Rattle.std.specs.declared.option.Option.{Option}
 use Rattle.std.specs.declared.option.Option.the-variants.{Some, None}
+use Rattle.std.proofs.shelf.Lists.{drop-all}
 use Rattle.network.specs.declared.fault.Fault.{Fault}
 use Rattle.network.specs.declared.figures.Member.{Member as Entry}
 use Rattle.network.specs.Limits.{nobody}
@@ -96,22 +98,32 @@ unfolding after
 after-after n s zero k x = refl
 after-after n s (suc j) k x = ap (on n s) (after-after n s j k x) ∙ sym (after-on n s k (after n s j x))
 
-stays : (n : ℕ) (s : List ℕ) (k : ℕ) (x : Spot) → on n s x ≡ x → after n s k x ≡ x
+rests : (n : ℕ) (s : List ℕ) (k : ℕ) (x : Spot) → on n s x ≡ x → after n s k x ≡ x
 unfolding after
-stays n s zero x e = refl
-stays n s (suc k) x e = ap (on n s) (stays n s k x e) ∙ e
+rests n s zero x e = refl
+rests n s (suc k) x e = ap (on n s) (rests n s k x e) ∙ e
 
--- it stops at one spot
-pub one-stop : (n : ℕ) (s : List ℕ) (x y : Spot) → Walked n s x → Walked n s y → on n s x ≡ x → on n s y ≡ y → x ≡ y
-one-stop n s x y v w ex ey =
-    sym (stays n s (w .steps) x ex) ∙ (ap (after n s (w .steps)) (sym (v .is)) ∙
-    (after-after n s (w .steps) (v .steps) start ∙ (ap (after n s (v .steps)) (w .is) ∙ stays n s (v .steps) y ey)))
+-- a spot at which the walk stops: there is one at most
+pub record Stop (n : ℕ) (s : List ℕ) : Type 0 where
+  pub at : Spot
+  pub walked : Walked n s at
+  pub stays : on n s at ≡ at
 
--- at a fault, and where nothing is due
-pub stops-at-fault : (n : ℕ) (s : List ℕ) (x : Spot) (e : Fault) → fault-at n s x ≡ Some e → on n s x ≡ x
+pub one-stop : (n : ℕ) (s : List ℕ) (a b : Stop n s) → a .at ≡ b .at
+one-stop n s a b =
+    let j = a .walked .steps in
+    let k = b .walked .steps in
+    let there = sym (rests n s k (a .at) (a .stays)) ∙ ap (after n s k) (sym (a .walked .is)) in
+    let back = ap (after n s j) (b .walked .is) ∙ rests n s j (b .at) (b .stays) in
+    there ∙ (after-after n s k j start ∙ back)
+
+-- it stops at a fault, and at the end where nothing is due
+pub fault-stops : (n : ℕ) (s : List ℕ) (x : Spot) (e : Fault) → fault-at n s x ≡ Some e → on n s x ≡ x
 unfolding on
-stops-at-fault n s x e h = rw h
+fault-stops n s x e h = rw h
 
-pub stops-at-end : (n : ℕ) (s : List ℕ) (byte : ℕ) (members : ℕ → Entry) (claims : ℕ → ℕ) → drop byte s ≡ [] → on n s (spot Nothing byte members claims) ≡ spot Nothing byte members claims
+pub end-stops :
+    (n : ℕ) (s : List ℕ) (members : ℕ → Entry) (claims : ℕ → ℕ) →
+    on n s (spot Nothing (length s) members claims) ≡ spot Nothing (length s) members claims
 unfolding on
-stops-at-end n s byte members claims e = rw e
+end-stops n s members claims = rw (drop-all (length s) s (omega arith))

@@ -7,7 +7,7 @@ use lib.ListN.{length, getD, take, drop}
 use lib.Dec.{ltb, eqb}
 use denote.Ref.{RefT, now, ptr}
 use Rattle.std.specs.declared.option.Option.{Option}
-use Rattle.std.specs.declared.option.Option.the-variants.{Some, None}
+use Rattle.std.specs.declared.option.Option.the-variants.{Some}
 use Rattle.network.specs.declared.fault.Fault.{Fault}
 use Rattle.network.specs.declared.fault.Cause.{Cause}
 use Rattle.network.specs.declared.fault.Cause.the-variants.{EndOfFile, UnknownKind, NotDue}

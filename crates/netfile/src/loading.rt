@@ -1,5 +1,4 @@
 // Loading a network file into a draft.
-ghost use mathlib.Core.Path.{_≡_};
 ghost use Rattle.netfile.specs.Loads.{Loaded, Accepts, Only};
 use crate::due::Due;
 use crate::fault::file_fault;
