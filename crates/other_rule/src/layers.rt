@@ -48,5 +48,9 @@ fn the_house_chooses_it() -> Result<(), Fail> {
         (1, 5, [3, 4, 0], [1, 4, 0]),
         (255, 5, [3, 4, 0], [1, 4, 0]),
     ];
-    check_divisions(&Choice::new(Priority, ReversePriority::new()), &divisions)
+    let either = Choice {
+        first: Priority,
+        second: ReversePriority::new(),
+    };
+    check_divisions(&either, &divisions)
 }

@@ -12,14 +12,18 @@ use Rattle.rules.specs.Theorems.{Only, InOrder, Level, LevelLosses, Proportion
 use Rattle.rules.specs.Unit.{equal-awards, jefferson}
 use Rattle.rules.specs.declared.ring.RingRulebook.{RingRulebook}
 
--- what the ring's rulebook does for each house
-abbrev pub ring-rule : RingRulebook → ℕ → Rule
-ring-rule r =
+-- what the ring's rulebook does for each house, given the classes that it serves by
+abbrev pub ring-rule : List ℕ → ℕ → Rule
+ring-rule ts =
     choice (λ _. priority)
     (choice (λ _. equal-awards)
     (choice (λ _. jefferson)
     (choice (λ _. dual equal-awards)
-    (λ _. by-class (r .houses .second .second .second .second .table .classes) jefferson))))
+    (λ _. by-class ts jefferson))))
+
+-- the classes that the ring's rulebook serves by
+abbrev pub ring-classes : RingRulebook → List ℕ
+ring-classes r = r .houses .second .second .second .second .table .classes
 
 -- the rule of each house, given the classes of the members
 pub record RingRules (rules : ℕ → Rule) (ts : List ℕ) : Type 0 where

@@ -1,5 +1,4 @@
 // Choice: the house picks one of two rulebooks.
-ghost use mathlib.Core.Path.{_≡_};
 ghost use Rattle.rules.specs.Choice.{choice};
 use crate::rulebook::Rulebook;
 use network::Fault;
@@ -8,16 +7,8 @@ use network::Fault;
 // choices gives each house a rulebook of its own, and the last one serves all that are left.
 #[derive(Drop)]
 pub struct Choice<P, Q> {
-    first: P,
-    second: Q,
-}
-
-impl<P: Rulebook, Q: Rulebook> Choice<P, Q> {
-    pub fn new(first: P, second: Q) -> Choice<P, Q>
-        ensures { λ r. ⌜ (r .first ≡ first) × (r .second ≡ second) ⌝ }
-    {
-        Choice { first, second }
-    }
+    pub first: P,
+    pub second: Q,
 }
 
 pub impl<P: Rulebook, Q: Rulebook> Rulebook for Choice<P, Q> as ChoiceRulebook {

@@ -1,6 +1,6 @@
 // The ring's rulebook: which rule each house has.
 ghost use Rattle.rules.specs.Classes.{classes-of};
-ghost use Rattle.rules.specs.Ring.{ring-rule, RingRules, RingApart};
+ghost use Rattle.rules.specs.Ring.{ring-rule, ring-classes, RingRules, RingApart};
 use crate::choice::Choice;
 use crate::choice::ChoiceRulebook;
 use crate::class_table::ClassTable;
@@ -42,23 +42,28 @@ pub struct RingRulebook {
 // The ring's rulebook for a network, whose members' classes it takes, with what sets each house's rule
 // apart from all other divisions.
 pub fn ring_rulebook(figures: &Figures) -> RingRulebook
-    ensures rules { λ r. ⌜ RingRules (ring-rule r) (classes-of (now (figures .entry))) ⌝ }
-    ensures apart { λ r. ⌜ RingApart (ring-rule r) (classes-of (now (figures .entry))) ⌝ }
+    ensures rules { λ r. ⌜ RingRules (ring-rule (ring-classes r)) (classes-of (now (figures .entry))) ⌝ }
+    ensures apart { λ r. ⌜ RingApart (ring-rule (ring-classes r)) (classes-of (now (figures .entry))) ⌝ }
 {
-    let equal_losses = Dual::new(UnitRule::new(EqualAwards));
     let classes = Classes::new(UnitRule::new(Jefferson), ClassTable::of(figures));
-    let houses = Choice::new(
-        Priority,
-        Choice::new(
-            UnitRule::new(EqualAwards),
-            Choice::new(UnitRule::new(Jefferson), Choice::new(equal_losses, classes)),
-        ),
-    );
+    let houses = Choice {
+        first: Priority,
+        second: Choice {
+            first: UnitRule::new(EqualAwards),
+            second: Choice {
+                first: UnitRule::new(Jefferson),
+                second: Choice {
+                    first: Dual::new(UnitRule::new(EqualAwards)),
+                    second: classes,
+                },
+            },
+        },
+    };
     RingRulebook { houses }
 }
 
 pub impl Rulebook for RingRulebook as RingHouses {
-    ghost awarded = { ring-rule };
+    ghost awarded = { λ s. ring-rule (ring-classes s) };
 
     fn awards(
         &self,
