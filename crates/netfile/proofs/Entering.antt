@@ -1,8 +1,7 @@
--- A record whose body is refused: by the draft, or by the order of the claims.
+-- A record whose entry the draft refuses.
 use mathlib.Core.Path.{_≡_, refl, ap, subst, _∙_}
 use mathlib.Core.List.{List}
-use mathlib.Core.Bool.{true, cond, _||_}
-use mathlib.Core.Logic.{_⊎_, ⊎-elim}
+use mathlib.Core.Bool.{cond, _||_}
 use Prim.Native.Nat.{ℕ, _+_, _*_, _<_}
 use native.Mathlib.Omega.{arith}
 use lib.ListN.{getD, take, drop}
@@ -13,7 +12,7 @@ use Rattle.std.specs.declared.option.Option.the-variants.{Some, None}
 use Rattle.std.specs.declared.result.Result.{Result}
 use Rattle.std.specs.declared.result.Result.the-variants.{Ok, Err}
 use Rattle.std.proofs.shelf.Lists.{getD-take, getD-drop}
-use Rattle.std.proofs.shelf.Tests.{cond-true, cond-false, eq-eqb, ne-eqb, lt-ltb, not-from-true, or-left, or-right}
+use Rattle.std.proofs.shelf.Tests.{cond-false, eq-eqb, ne-eqb, not-from-true}
 use Rattle.network.specs.declared.fault.Fault.{Fault}
 use Rattle.network.specs.declared.fault.Cause.the-variants.{ClaimOrder}
 use Rattle.network.specs.Answers.{Gives}
@@ -36,12 +35,6 @@ draft-refuses byte v next P Q (Err e0) o e g m k =
     let s : at-byte byte e0 ≡ e = cc in
     rw (g .0) (ap Some s)
 
-draft-accepts :
-    (byte : ℕ) (v next : Option Fault) (P : Unit {0} → Type 0) (Q : Type 0) (r o : Result (Unit {0}) Fault) (x : Unit {0}) →
-    Gives v P Q r → o ≡ met-at byte r → o ≡ Ok x → draft-or byte v next ≡ next
-draft-accepts byte v next P Q (Ok y) o x g m k = rw (g .0)
-draft-accepts byte v next P Q (Err e) o x g m k = absurd (let z : _≡_ {A = ℕ} 0 1 = cc in omega arith)
-
 -- the body of a record that was read
 pub member-body :
     (rest body : RefT (List ℕ)) (r : Record) → IsRecord rest 0 r → r ≡ MemberRecord body → now body ≡ take 7 (drop 1 (now rest))
@@ -60,42 +53,47 @@ claim-body rest body r is e =
 byte-at : (t body : List ℕ) (m k j : ℕ) → body ≡ take m (drop 1 t) → k < m → 1 + k ≡ j → getD t j 0 ≡ getD body k 0
 byte-at t body m k j e h i = rw (e, ← i, getD-take, getD-drop)
 
-module _ (n member byte : ℕ) (t body : List ℕ) (endowment : ℕ) (is : body ≡ take 7 (drop 1 t)) (number : endowment ≡ number-at body 3) (mine : getD body 0 0 ≡ member) (whole : record-fault 2 2 byte t None ≡ None) where
-  member-checks : due-fault n (Member member) byte t ≡ draft-or byte (member-fault n member (getD body 2 0) endowment) None
-  member-checks =
+module _ (n member byte : ℕ) (t body : List ℕ) (is : body ≡ take 7 (drop 1 t)) (whole : record-fault 2 2 byte t None ≡ None) where
+  member-checks :
+      (class endowment : ℕ) → class ≡ getD body 2 0 → endowment ≡ number-at body 3 → getD body 0 0 ≡ member →
+      due-fault n (Member member) byte t ≡ draft-or byte (member-fault n member class endowment) None
+  member-checks class endowment c x mine =
       let at : (i j : ℕ) → i < 7 → 1 + i ≡ j → getD t j 0 ≡ getD body i 0 = λ i j. byte-at t body 7 i j is in
       let same : getD t 1 0 ≡ member = at 0 1 (omega arith) refl ∙ mine in
-      body-decides 2 2 byte t _ whole ∙ (cond-false _ _ _ (not-from-true _ (eq-eqb (getD t 1 0) member same))
-      ∙ rw (at 2 3 (omega arith) refl, at 3 4 (omega arith) refl, at 4 5 (omega arith) refl, at 5 6 (omega arith) refl, at 6 7 (omega arith) refl, ← number))
+      let a = at 2 3 (omega arith) refl in
+      let e3 = at 3 4 (omega arith) refl in
+      let e4 = at 4 5 (omega arith) refl in
+      let e5 = at 5 6 (omega arith) refl in
+      let e6 = at 6 7 (omega arith) refl in
+      let due = cond-false _ _ _ (not-from-true _ (eq-eqb (getD t 1 0) member same)) in
+      body-decides 2 2 byte t _ whole ∙ (due ∙ rw (a, e3, e4, e5, e6, ← x, ← c))
 
   pub member-refused :
+      (class endowment : ℕ) → class ≡ getD body 2 0 → endowment ≡ number-at body 3 → getD body 0 0 ≡ member →
       (P : Unit {0} → Type 0) (Q : Type 0) (r o : Result (Unit {0}) Fault) (e : Fault) →
-      Gives (member-fault n member (getD body 2 0) endowment) P Q r → o ≡ met-at byte r → o ≡ Err e →
-      due-fault n (Member member) byte t ≡ Some e
-  member-refused P Q r o e g m k = member-checks ∙ draft-refuses byte _ None P Q r o e g m k
+      Gives (member-fault n member class endowment) P Q r → o ≡ met-at byte r → o ≡ Err e → due-fault n (Member member) byte t ≡ Some e
+  member-refused class endowment c x mine P Q r o e g m k = member-checks class endowment c x mine ∙ draft-refuses byte _ None P Q r o e g m k
 
-module _ (n least byte : ℕ) (t body : List ℕ) (units : ℕ) (is : body ≡ take 6 (drop 1 t)) (number : units ≡ number-at body 2) (claim : kind t ≡ 3) (whole : record-fault 3 4 byte t None ≡ None) where
-  abbrev order : Option Fault
-  order = cond (eqb units 0 || ltb (32 * getD body 0 0 + getD body 1 0) least) (Some (file-fault ClaimOrder byte)) None
+module _ (n least byte : ℕ) (t body : List ℕ) (is : body ≡ take 6 (drop 1 t)) (claim : kind t ≡ 3) (whole : record-fault 3 4 byte t None ≡ None) where
+  abbrev order : ℕ → ℕ → ℕ → Option Fault
+  order debtor creditor units = cond (eqb units 0 || ltb (32 * debtor + creditor) least) (Some (file-fault ClaimOrder byte)) None
 
-  claim-checks : due-fault n (Claim least) byte t ≡ draft-or byte (claim-fault n (getD body 0 0) (getD body 1 0) units) order
-  claim-checks =
+  claim-checks :
+      (debtor creditor units : ℕ) → debtor ≡ getD body 0 0 → creditor ≡ getD body 1 0 → units ≡ number-at body 2 →
+      due-fault n (Claim least) byte t ≡ draft-or byte (claim-fault n debtor creditor units) (order debtor creditor units)
+  claim-checks debtor creditor units d c x =
       let at : (i j : ℕ) → i < 6 → 1 + i ≡ j → getD t j 0 ≡ getD body i 0 = λ i j. byte-at t body 6 i j is in
-      body-decides 3 4 byte t _ whole ∙ (cond-false _ _ _ (ne-eqb (kind t) 4 (λ (h : kind t ≡ 4). omega arith))
-      ∙ rw (at 0 1 (omega arith) refl, at 1 2 (omega arith) refl, at 2 3 (omega arith) refl, at 3 4 (omega arith) refl, at 4 5 (omega arith) refl, at 5 6 (omega arith) refl, ← number))
+      let a = at 0 1 (omega arith) refl in
+      let b = at 1 2 (omega arith) refl in
+      let u2 = at 2 3 (omega arith) refl in
+      let u3 = at 3 4 (omega arith) refl in
+      let u4 = at 4 5 (omega arith) refl in
+      let u5 = at 5 6 (omega arith) refl in
+      let no-end = cond-false _ _ _ (ne-eqb (kind t) 4 (λ (h : kind t ≡ 4). omega arith)) in
+      body-decides 3 4 byte t _ whole ∙ (no-end ∙ rw (a, b, u2, u3, u4, u5, ← x, ← d, ← c))
 
   pub claim-refused :
+      (debtor creditor units : ℕ) → debtor ≡ getD body 0 0 → creditor ≡ getD body 1 0 → units ≡ number-at body 2 →
       (P : Unit {0} → Type 0) (Q : Type 0) (r o : Result (Unit {0}) Fault) (e : Fault) →
-      Gives (claim-fault n (getD body 0 0) (getD body 1 0) units) P Q r → o ≡ met-at byte r → o ≡ Err e →
-      due-fault n (Claim least) byte t ≡ Some e
-  claim-refused P Q r o e g m k = claim-checks ∙ draft-refuses byte _ _ P Q r o e g m k
-
-  pub claim-disordered :
-      (P : Unit {0} → Type 0) (Q : Type 0) (r o : Result (Unit {0}) Fault) (x : Unit {0}) →
-      Gives (claim-fault n (getD body 0 0) (getD body 1 0) units) P Q r → o ≡ met-at byte r → o ≡ Ok x →
-      (units ≡ 0) ⊎ ((units ≡ 0 → ⊥) × (32 * getD body 0 0 + getD body 1 0 < least)) →
-      due-fault n (Claim least) byte t ≡ Some (file-fault ClaimOrder byte)
-  claim-disordered P Q r o x g m k why =
-      let test : (eqb units 0 || ltb (32 * getD body 0 0 + getD body 1 0) least) ≡ true =
-      ⊎-elim (λ z. or-left _ _ (eq-eqb units 0 z)) (λ z. or-right _ _ (lt-ltb _ _ (z .1))) why in
-      claim-checks ∙ (draft-accepts byte _ order P Q r o x g m k ∙ cond-true _ _ None test)
+      Gives (claim-fault n debtor creditor units) P Q r → o ≡ met-at byte r → o ≡ Err e → due-fault n (Claim least) byte t ≡ Some e
+  claim-refused debtor creditor units d c x P Q r o e g m k = claim-checks debtor creditor units d c x ∙ draft-refuses byte _ _ P Q r o e g m k

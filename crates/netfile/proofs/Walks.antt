@@ -18,6 +18,7 @@ use Rattle.netfile.specs.Records.{kind, record-length}
 use Rattle.netfile.specs.Files.{number-at}
 use Rattle.netfile.specs.Checks.{place-of, due-fault}
 use Rattle.netfile.specs.Reads.{due-after}
+use Rattle.netfile.proofs.Entries.{entry}
 
 -- what is due, at which byte, and the entries that were read before it
 pub record Spot : Type 0 where
@@ -26,11 +27,13 @@ pub record Spot : Type 0 where
   pub members : ℕ → Entry
   pub claims : ℕ → ℕ
 
+-- F with x at k
 abbrev pub written : {X : Type 0} → (ℕ → X) → ℕ → X → ℕ → X
 written F k x i = cond (eqb i k) x (F i)
 
+-- the members, the claims and the byte behind the record that t begins with
 abbrev pub members-with : Due → List ℕ → (ℕ → Entry) → ℕ → Entry
-members-with (Member k) t F = written F k (record { house = getD t 2 0; class = getD t 3 0; endowment = number-at t 4 })
+members-with (Member k) t F = written F k (entry (getD t 2 0) (getD t 3 0) (number-at t 4))
 members-with Network t F = F
 members-with (Claim least) t F = F
 members-with Nothing t F = F
@@ -50,11 +53,11 @@ byte-after Nothing byte t = byte
 abbrev pub spot : Due → ℕ → (ℕ → Entry) → (ℕ → ℕ) → Spot
 spot due byte members claims = record { due = due; byte = byte; members = members; claims = claims }
 
--- behind the record that t begins with
 abbrev pub past : ℕ → List ℕ → Spot → Spot
 past n t x =
     spot (due-after n (x .due) t) (byte-after (x .due) (x .byte) t) (members-with (x .due) t (x .members)) (claims-with (x .due) t (x .claims))
 
+-- one step of the walk: on to the next record, unless a check fails
 abbrev pub onward : Option Fault → Spot → Spot → Spot
 onward (Some e) here next = here
 onward None here next = next

@@ -1,4 +1,5 @@
 // The network file: its records, the members that it counts, and a draft read from it or written into it.
+mod body;
 mod counting;
 mod due;
 mod fault;

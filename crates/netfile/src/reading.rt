@@ -2,6 +2,8 @@
 ghost use Prim.Native.Nat.{_<_};
 ghost use lib.ListN.{length};
 ghost use Rattle.netfile.specs.Reads.{Reads};
+use crate::body::claim_in;
+use crate::body::member_in;
 use crate::due::Due;
 use crate::fault::file_fault;
 use crate::fault::met_at;
@@ -47,11 +49,11 @@ fn read_member(draft: &mut Draft, rest: &[u8], byte: usize, member: u8) -> Resul
     let Record::Member(body) = first_record(rest, byte, MEMBER, MEMBER)? else {
         return Err(file_fault(Cause::NotDue, byte));
     };
-    if body[0] != member {
+    let (number, entry) = member_in(body);
+    if number != member {
         return Err(file_fault(Cause::NotDue, byte));
     }
-    let endowment = u32::from_be_bytes([body[3], body[4], body[5], body[6]]);
-    let entered = draft.enter_member(member, body[1], body[2], endowment);
+    let entered = draft.enter_member(member, entry.house, entry.class, entry.endowment);
     met_at(byte, entered)?;
     if member + 1 < draft.count().get() {
         Ok(Due::Member(member + 1))
@@ -66,10 +68,10 @@ fn read_claim(draft: &mut Draft, rest: &[u8], byte: usize, least: usize) -> Resu
     let Record::Claim(body) = first_record(rest, byte, CLAIM, END)? else {
         return Ok(Due::Nothing);
     };
-    let units = u32::from_be_bytes([body[2], body[3], body[4], body[5]]);
-    let entered = draft.enter_claim(body[0], body[1], units);
+    let (debtor, creditor, units) = claim_in(body);
+    let entered = draft.enter_claim(debtor, creditor, units);
     met_at(byte, entered)?;
-    let place = MEMBERS * body[0] as usize + body[1] as usize;
+    let place = MEMBERS * debtor as usize + creditor as usize;
     if units == 0 || place < least {
         return Err(file_fault(Cause::ClaimOrder, byte));
     }

@@ -1,10 +1,12 @@
 // Writing a draft as a network file.
 ghost use mathlib.Core.Path.{_≡_};
-ghost use Prim.Native.Nat.{_+_, _<_, _≤_};
+ghost use Prim.Native.Nat.{_+_, _≤_};
 ghost use lib.ListN.{length};
 ghost use Rattle.network.specs.Answers.{Gives};
-ghost use Rattle.netfile.specs.Files.{member-record, claim-record, members-of, claims-of, file-of};
+ghost use Rattle.netfile.specs.Files.{members-of, claims-of, file-of};
 ghost use Rattle.netfile.specs.Writes.{short-fault, Written, Sole, Put};
+use crate::body::claim_record;
+use crate::body::member_record;
 use crate::fault::file_fault;
 use crate::record::BODY_LENGTHS;
 use crate::record::CLAIM;
@@ -16,7 +18,6 @@ use network::Draft;
 use network::Fault;
 use network::Figures;
 use network::MEMBERS;
-use network::Member;
 
 // The places of claims: 32 times the debtor plus the creditor.
 const PLACES: usize = MEMBERS * MEMBERS;
@@ -88,18 +89,4 @@ fn put(buffer: &mut [u8], start: usize, bytes: &[u8]) -> usize
     let end = start + bytes.len();
     buffer[start..end].copy_from_slice(bytes);
     end
-}
-
-fn member_record(member: u8, entry: Member) -> [u8; 8]
-    ensures { λ r. ⌜ r ≡ member-record member entry ⌝ }
-{
-    let [a, b, c, d] = entry.endowment.to_be_bytes();
-    [MEMBER, member, entry.house, entry.class, a, b, c, d]
-}
-
-fn claim_record(debtor: u8, creditor: u8, units: u32) -> [u8; 7]
-    ensures { λ r. ⌜ r ≡ claim-record debtor creditor units ⌝ }
-{
-    let [a, b, c, d] = units.to_be_bytes();
-    [CLAIM, debtor, creditor, a, b, c, d]
 }

@@ -1,5 +1,4 @@
-use mathlib.Core.Path.{_≡_}
-use lib.ListN.{getD}
+use mathlib.Core.Path.{_≡_, sym, _∙_}
 use Rattle.std.proofs.shelf.Results.{err-from-errBy}
 use Rattle.network.specs.Entries.{MemberSet}
 use Rattle.netfile.proofs.Passing.{record-decides}
@@ -16,15 +15,16 @@ returns-in-Break-met-at c =
     let p = err-from-errBy (c .from-residual-in-Break-met-at .result) (c .from-residual-in-Break-met-at .ensures .1) in
     let f = c .args .draft .now .figures in
     let k = c .args .member in
-    let body = c .in-Member .body .now in
-    let x = c .from-be-bytes-endowment .result in
+    let m = c .member-in-number .result .1 in
+    let is = c .member-in-number .ensures in
     let entered = c .enter-member-entered in
     let read = c .in-Continue-body .ensures tt in
-    let is = member-body (c .args .rest) (c .in-Member .body) (c .in-Continue-body .field-0) (read .1) (c .in-Member .is) in
+    let body = member-body (c .args .rest) (c .in-Member .body) (c .in-Continue-body .field-0) (read .1) (c .in-Member .is) in
+    let mine = sym (is .number) ∙ c .if-number-member .left in
     rw (p .1, p .2) (
-      member-refused (f .n) k (c .args .byte) (c .args .rest .now) body x is (c .from-be-bytes-endowment .ensures) (c .if-body-member .left) (read .0)
-          (λ _. MemberSet f k (getD body 1 0) (getD body 2 0) x (entered .last .self .figures))
-          (entered .last .self ≡ c .args .draft .now)
+      member-refused (f .n) k (c .args .byte) (c .args .rest .now) (c .in-Member .body .now) body (read .0)
+          (m .class) (m .endowment) (is .class) (is .endowment) mine
+          (λ _. MemberSet f k (m .house) (m .class) (m .endowment) (entered .last .self .figures)) (entered .last .self ≡ c .args .draft .now)
           (entered .result) (c .met-at .result) _ (entered .ensures) (c .met-at .ensures) (c .in-Break-met-at .was tt),
       tt,
     )
