@@ -1,5 +1,5 @@
-//! Links the engine's static library, which `rt staticlib engine` writes, and the C code of the Rattle toolchain that
-//! it allocates by.
+//! Links the engine's static library, which `rt staticlib engine` writes, and the C code of the
+//! Rattle toolchain that it allocates by.
 use std::path::{Path, PathBuf};
 use std::process::Command;
 

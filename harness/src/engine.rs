@@ -23,7 +23,8 @@ unsafe extern "C" {
 /// Stands for the length of a text that there was no memory to make.
 const NO_MEMORY: usize = usize::MAX;
 
-/// Puts what clear prints for the input at the front of the buffer, if there is room, and answers its length.
+/// Puts what clear prints for the input at the front of the buffer, if there is room, and answers
+/// its length.
 pub fn clear_into(input: &[u8], buffer: &mut [u8]) -> usize {
     // SAFETY: both slices are valid for their lengths, and the engine keeps neither.
     let length = unsafe {
@@ -38,16 +39,18 @@ pub fn clear_into(input: &[u8], buffer: &mut [u8]) -> usize {
     length
 }
 
-/// The longest text there is, and more: 992 payments, 32 equities, 32 defaults and a line of rounds.
-pub const LONGEST_TEXT: usize = 65_536;
-
-/// What clear prints for the input.
-pub fn clear<'a>(input: &[u8], buffer: &'a mut [u8; LONGEST_TEXT]) -> &'a [u8] {
-    let length = clear_into(input, buffer);
+/// What clear prints for the input. The buffer grows as the text needs it.
+pub fn clear<'a>(input: &[u8], buffer: &'a mut Vec<u8>) -> &'a [u8] {
+    let mut length = clear_into(input, buffer);
+    if length > buffer.len() {
+        buffer.resize(length, 0);
+        length = clear_into(input, buffer);
+    }
     &buffer[..length]
 }
 
-/// Divides an estate under the ring's rulebook of the network whose file is given; answers 0 or a fault's number.
+/// Divides an estate under the ring's rulebook of the network whose file is given. Answers 0 or
+/// the number of a fault.
 pub fn awards(network: &[u8], house: u8, estate: u32, claims: &[u32], awards: &mut [u32]) -> u8 {
     // SAFETY: all slices are valid for their lengths, and the engine keeps none.
     unsafe {

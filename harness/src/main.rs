@@ -1,4 +1,4 @@
-//! Compares the proved engine with a plain Rust implementation of the same rules, and measures both.
+//! Compares the proved engine with a plain Rust implementation of its rules, and measures both.
 //!
 //!     harness [--seed N] [--seconds N] [FOLDER]
 mod compare;

@@ -1,5 +1,5 @@
 //! Both sides timed on the same networks.
-use crate::engine::{self, LONGEST_TEXT};
+use crate::engine;
 use crate::inputs::{networks::ordinary_network, random::Random};
 use crate::plain::{self, file};
 use std::hint::black_box;
@@ -40,7 +40,7 @@ pub fn print_table(seed: u64) {
 
 /// The least time for one file that each side took, of several repeats in turns.
 fn fastest(files: &[Vec<u8>]) -> (f64, f64) {
-    let mut buffer = Box::new([0; LONGEST_TEXT]);
+    let mut buffer = Vec::new();
     let (mut engine, mut plain) = (Duration::MAX, Duration::MAX);
     for _ in 0..REPEATS {
         engine = engine.min(timed(files, |file| {

@@ -1,12 +1,12 @@
 //! Both sides on files whose text is given.
-use crate::engine::{self, LONGEST_TEXT};
+use crate::engine;
 use crate::plain;
 use std::{fs, io, path::Path};
 
 /// Clears every NAME.net of a folder and compares with NAME.out beside it. Answers how many differ.
 pub fn run(folder: &Path) -> io::Result<u64> {
     let (mut agreed, mut differed) = (0, 0);
-    let mut buffer = Box::new([0; LONGEST_TEXT]);
+    let mut buffer = Vec::new();
     for entry in fs::read_dir(folder)? {
         let path = entry?.path();
         if path.extension().is_none_or(|extension| extension != "net") {
@@ -25,6 +25,9 @@ pub fn run(folder: &Path) -> io::Result<u64> {
                 path.display()
             );
         }
+    }
+    if agreed + differed == 0 {
+        return Err(io::Error::other("the folder has no NAME.net"));
     }
     println!("{agreed} vectors agree, {differed} differ");
     Ok(differed)

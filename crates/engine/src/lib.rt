@@ -1,5 +1,5 @@
-// The engine for callers in other languages: what clear prints, and the awards of the ring's rulebook,
-// by functions on numbers and slices.
+// The engine for callers in other languages: what clear prints, and the awards of the ring's rulebook.
+// A slice is passed as a pointer and a length, and nothing is passed for a `Global`.
 ghost use mathlib.Core.Path.{_≡_};
 ghost use lib.ListN.{length};
 ghost use Rattle.engine.specs.Exports.{put-front, Told, Divided, Numbered};

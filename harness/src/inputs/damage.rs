@@ -4,7 +4,11 @@ use super::random::Random;
 use crate::plain::LONGEST_INPUT;
 use crate::plain::file::{self, CLAIM, MEMBER};
 
-/// A network's file with one to three things wrong, or bytes that were never a file. A few are sound all the same.
+/// Figures at the limits of claims and endowments, and past them.
+const NEAR_LIMITS: [u32; 6] = [0, 10_000, 10_001, 1_000_000, 1_000_001, u32::MAX];
+
+/// A network's file with a few things wrong, or bytes that were never a file. Some are sound all
+/// the same.
 pub fn damaged_file(random: &mut Random) -> Vec<u8> {
     if random.one_in(20) {
         return noise(random);
@@ -30,15 +34,16 @@ pub fn damaged_file(random: &mut Random) -> Vec<u8> {
 /// Bytes that begin as a file might.
 fn noise(random: &mut Random) -> Vec<u8> {
     let length = random.below(40);
-    (0..length)
-        .map(|_| {
-            if random.one_in(4) {
-                random.byte()
-            } else {
-                random.below(6) as u8
-            }
-        })
-        .collect()
+    (0..length).map(|_| likely_byte(random)).collect()
+}
+
+/// A byte that is mostly low, as kinds and member numbers are.
+fn likely_byte(random: &mut Random) -> u8 {
+    if random.one_in(4) {
+        random.byte()
+    } else {
+        random.below(6) as u8
+    }
 }
 
 fn damage_records(random: &mut Random, records: &mut Vec<Vec<u8>>) {
@@ -53,21 +58,10 @@ fn damage_records(random: &mut Random, records: &mut Vec<Vec<u8>>) {
     }
 }
 
-/// A number in a record that may be above its limit.
+/// Another number in a record, which may be above its limit.
 fn spoil(random: &mut Random, record: &mut [u8]) {
     let (kind, body) = (record[0], &mut record[1..]);
-    let limits: &[u32] = &[
-        0,
-        1,
-        9_999,
-        10_000,
-        10_001,
-        999_999,
-        1_000_000,
-        1_000_001,
-        u32::MAX,
-    ];
-    let number = random.pick(limits).to_be_bytes();
+    let number = random.pick(&NEAR_LIMITS).to_be_bytes();
     match (kind, random.below(3)) {
         (MEMBER, 0) => body[3..7].copy_from_slice(&number),
         (MEMBER, 1) => body[2] = random.pick(&[7, 8, 255]),
@@ -78,17 +72,15 @@ fn spoil(random: &mut Random, record: &mut [u8]) {
     }
 }
 
+/// A cut, a stretch missing, bytes between or behind, or a bit turned.
 fn damage_bytes(random: &mut Random, bytes: &mut Vec<u8>) {
     let place = random.below(bytes.len() + 1);
-    let length = random.below(9);
+    let end = bytes.len().min(place + random.below(9));
+    let front = &bytes[..place];
     match random.below(5) {
-        0 => bytes.truncate(place),
-        1 => drop(bytes.splice(place..place, noise(random)).count()),
-        2 => drop(
-            bytes
-                .drain(place..(place + length).min(bytes.len()))
-                .count(),
-        ),
+        0 => *bytes = front.to_vec(),
+        1 => *bytes = [front, &bytes[end..]].concat(),
+        2 => *bytes = [front, &noise(random), &bytes[place..]].concat(),
         3 => bytes.extend(noise(random)),
         _ => {
             if let Some(byte) = bytes.get_mut(place) {

@@ -50,10 +50,11 @@ enum Houses {
     Any,
 }
 
-/// About how many scores are looked at in one round of single units, by which the claims of a case are kept moderate.
+/// Claims are kept so moderate that a round of single units looks at about as many scores.
 const USUAL_WORK: u64 = 100_000;
 
-/// A network of any shape, size, houses, classes and figures. Most are small; a few are large in every respect.
+/// A network of any shape, size, houses, classes and figures. Most are small, and a few large in
+/// every respect.
 pub fn any_network(random: &mut Random) -> Network {
     let most = random.pick(&[4, 6, 8, 16, 32]);
     let n = 1 + random.below(most);

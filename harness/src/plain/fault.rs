@@ -1,7 +1,8 @@
-//! Refusals.
+//! Refusals, by the numbers of docs/FAULTS.md.
 use std::fmt;
 
-const NOBODY: u8 = 255;
+/// Stands for a member where none is named.
+pub const NOBODY: u8 = 255;
 
 #[derive(Clone, Copy)]
 pub enum Layer {
@@ -21,23 +22,11 @@ pub struct Fault {
 
 impl Fault {
     pub fn of_nobody(number: u8, layer: Layer, byte: usize) -> Fault {
-        Fault {
-            number,
-            layer,
-            byte,
-            debtor: NOBODY,
-            creditor: NOBODY,
-        }
+        Fault::of_pair(number, layer, byte, NOBODY, NOBODY)
     }
 
     pub fn of_member(number: u8, layer: Layer, byte: usize, member: u8) -> Fault {
-        Fault {
-            number,
-            layer,
-            byte,
-            debtor: member,
-            creditor: NOBODY,
-        }
+        Fault::of_pair(number, layer, byte, member, NOBODY)
     }
 
     pub fn of_pair(number: u8, layer: Layer, byte: usize, debtor: u8, creditor: u8) -> Fault {

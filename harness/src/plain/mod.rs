@@ -5,7 +5,9 @@ pub mod file;
 pub mod network;
 pub mod rules;
 
-use std::fmt::Write;
+use clearing::Sheet;
+use network::Network;
+use std::fmt::{self, Write};
 
 /// A longer input is not read as a network file.
 pub const LONGEST_INPUT: usize = 65_536;
@@ -16,35 +18,26 @@ pub fn clear(input: &[u8]) -> String {
         return "too long\n".to_string();
     }
     match file::read(input) {
-        Ok(network) => sheet_text(&network, &clearing::close(&network)),
+        Ok(network) => sheet_text(&network, &clearing::close(&network)).expect("text is written"),
         Err(fault) => format!("{fault}\n"),
     }
 }
 
-fn sheet_text(network: &network::Network, sheet: &clearing::Sheet) -> String {
+fn sheet_text(network: &Network, sheet: &Sheet) -> Result<String, fmt::Error> {
     let mut text = String::new();
-    let mut line =
-        |words: std::fmt::Arguments| writeln!(text, "{words}").expect("a String takes any text");
     for (debtor, creditor, _) in network.claims_in_order() {
-        line(format_args!(
-            "paid {debtor} {creditor} {}",
-            sheet.paid[debtor][creditor]
-        ));
+        let paid = sheet.paid[debtor][creditor];
+        writeln!(text, "paid {debtor} {creditor} {paid}")?;
     }
     for (member, equity) in sheet.equities.iter().enumerate() {
-        line(format_args!("equity {member} {equity}"));
+        writeln!(text, "equity {member} {equity}")?;
     }
-    for (member, _) in sheet
-        .defaults
-        .iter()
-        .enumerate()
-        .filter(|(_, fails)| **fails)
-    {
-        line(format_args!("default {member}"));
+    for (member, defaults) in sheet.defaults.iter().enumerate() {
+        if *defaults {
+            writeln!(text, "default {member}")?;
+        }
     }
-    line(format_args!(
-        "rounds {} {} {}",
-        sheet.rounds, sheet.units, sheet.passed_over
-    ));
-    text
+    let (rounds, units, passed_over) = (sheet.rounds, sheet.units, sheet.passed_over);
+    writeln!(text, "rounds {rounds} {units} {passed_over}")?;
+    Ok(text)
 }

@@ -1,5 +1,5 @@
 //! The ring's rulebook.
-use super::fault::{Fault, Layer};
+use super::fault::{Fault, Layer, NOBODY};
 use super::network::{HIGHEST_CLASS, LARGEST_CLAIM, MOST_MEMBERS, Network};
 
 /// The rules of the houses, for the classes of a network's members; 0 past them.
@@ -28,7 +28,7 @@ impl Rulebook {
             return Err(Fault::of_nobody(10, Layer::Rule, 0));
         }
         if let Some(creditor) = claims.iter().position(|claim| *claim > LARGEST_CLAIM) {
-            return Err(Fault::of_pair(11, Layer::Rule, 0, 255, creditor as u8));
+            return Err(Fault::of_pair(11, Layer::Rule, 0, NOBODY, creditor as u8));
         }
         match house {
             0 => priority(estate, claims, awards),
@@ -46,12 +46,10 @@ impl Rulebook {
         let mut left = estate;
         for class in 0..=HIGHEST_CLASS {
             let (mut part, mut shares) = ([0; MOST_MEMBERS], [0; MOST_MEMBERS]);
-            for (k, claim) in claims
-                .iter()
-                .enumerate()
-                .filter(|(k, _)| self.classes[*k] == class)
-            {
-                part[k] = *claim;
+            for (k, claim) in claims.iter().enumerate() {
+                if self.classes[k] == class {
+                    part[k] = *claim;
+                }
             }
             let (part, shares) = (&part[..claims.len()], &mut shares[..claims.len()]);
             unit_rule(left, part, shares, jefferson);
@@ -90,7 +88,8 @@ fn jefferson(claim: u32, held: u32) -> Score {
     (u64::from(claim), u64::from(held) + 1)
 }
 
-/// One unit at a time, each to the highest score among those that hold less than their claim, the lower number first.
+/// One unit at a time, each to the highest score among those that hold less than their claim, and
+/// of equals to the lower number.
 fn unit_rule(estate: u32, claims: &[u32], awards: &mut [u32], score: impl Fn(u32, u32) -> Score) {
     awards.fill(0);
     for _ in 0..estate {
