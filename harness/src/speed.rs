@@ -14,7 +14,7 @@ const HOUSES: [&str; 5] = [
 ];
 
 const NETWORKS: usize = 8;
-const REPEATS: usize = 7;
+const REPEATS: usize = 9;
 
 /// The time of each side for one clear of an ordinary network, by size and house.
 pub fn print_table(seed: u64) {
@@ -38,26 +38,25 @@ pub fn print_table(seed: u64) {
     }
 }
 
-/// The least time for one file that each side took, of several repeats in turns.
+/// The microseconds that each side took for a file: the least of several repeats, on average.
 fn fastest(files: &[Vec<u8>]) -> (f64, f64) {
     let mut buffer = Vec::new();
-    let (mut engine, mut plain) = (Duration::MAX, Duration::MAX);
+    let mut times = vec![(Duration::MAX, Duration::MAX); files.len()];
     for _ in 0..REPEATS {
-        engine = engine.min(timed(files, |file| {
-            black_box(engine::clear(file, &mut buffer));
-        }));
-        plain = plain.min(timed(files, |file| {
-            black_box(plain::clear(file));
-        }));
+        for (file, (engine, plain)) in files.iter().zip(&mut times) {
+            *engine = timed(|| engine::clear(black_box(file), &mut buffer).len()).min(*engine);
+            *plain = timed(|| plain::clear(black_box(file)).len()).min(*plain);
+        }
     }
-    let per_file = |time: Duration| time.as_secs_f64() * 1e6 / files.len() as f64;
-    (per_file(engine), per_file(plain))
+    let average = |total: Duration| total.as_secs_f64() * 1e6 / files.len() as f64;
+    (
+        average(times.iter().map(|(engine, _)| engine).sum()),
+        average(times.iter().map(|(_, plain)| plain).sum()),
+    )
 }
 
-fn timed(files: &[Vec<u8>], mut clear: impl FnMut(&[u8])) -> Duration {
+fn timed(clear: impl FnOnce() -> usize) -> Duration {
     let start = Instant::now();
-    for file in files {
-        clear(black_box(file));
-    }
+    black_box(clear());
     start.elapsed()
 }
