@@ -21,9 +21,15 @@ pub impl fmt::Display for TextLine as TextLineDisplay {
         match *self {
             TextLine::Members(n) => write!(f, "members {n}"),
             TextLine::Member(member, house, class, endowment) => {
-                write!(f, "member {member} house {house} class {class} endowment {endowment}")
+                write!(
+                    f,
+                    "member {member} house {house} class {class} endowment {endowment}"
+                )
             }
-            TextLine::Claim(debtor, creditor, units) => write!(f, "claim {debtor} {creditor} {units}"),
+            TextLine::Claim(debtor, creditor, units) => write!(
+                f,
+                "claim {debtor} {creditor} {units}"
+            ),
         }
     }
 }
@@ -38,7 +44,11 @@ fn number(words: &mut SplitWhitespace<'_>) -> Option<u32> {
 
 // Passes over a word that has to stand there.
 fn word(words: &mut SplitWhitespace<'_>, expected: &str) -> Option<()> {
-    if words.next()? == expected { Some(()) } else { None }
+    if words.next()? == expected {
+        Some(())
+    } else {
+        None
+    }
 }
 
 fn member_line(words: &mut SplitWhitespace<'_>) -> Option<TextLine> {
@@ -60,5 +70,9 @@ pub(crate) fn parse_line(text: &str) -> Option<TextLine> {
         "claim" => TextLine::Claim(byte(&mut words)?, byte(&mut words)?, number(&mut words)?),
         _ => return None,
     };
-    if words.next().is_some() { None } else { Some(line) }
+    if words.next().is_some() {
+        None
+    } else {
+        Some(line)
+    }
 }

@@ -38,7 +38,10 @@ pub impl fmt::Display for BadLine as BadLineDisplay {
         let number = self.number;
         match self.slip {
             Slip::NoLine => write!(f, "line {number}: neither members, member nor claim"),
-            Slip::Count => write!(f, "line {number}: the number of members comes first, and once"),
+            Slip::Count => write!(
+                f,
+                "line {number}: the number of members comes first, and once"
+            ),
             Slip::Member => write!(f, "line {number}: not the next member"),
             Slip::Again => write!(f, "line {number}: the claim was entered before"),
             Slip::Missing => write!(f, "line {number}: members are missing"),
@@ -47,7 +50,10 @@ pub impl fmt::Display for BadLine as BadLineDisplay {
                 let layer = fault.layer.name();
                 let debtor = fault.debtor;
                 let creditor = fault.creditor;
-                write!(f, "line {number}: fault {cause} {layer} 0 {debtor} {creditor}")
+                write!(
+                    f,
+                    "line {number}: fault {cause} {layer} 0 {debtor} {creditor}"
+                )
             }
         }
     }
@@ -70,14 +76,23 @@ pub fn count_text(text: &str) -> Result<MemberCount, BadLine> {
         }
         let number = i.saturating_add(1);
         let Some(TextLine::Members(n)) = parse_line(line) else {
-            return Err(BadLine { number, slip: Slip::Count });
+            return Err(BadLine {
+                number,
+                slip: Slip::Count,
+            });
         };
         return match MemberCount::new(n) {
             Ok(count) => Ok(count),
-            Err(fault) => Err(BadLine { number, slip: Slip::Refused(fault) }),
+            Err(fault) => Err(BadLine {
+                number,
+                slip: Slip::Refused(fault),
+            }),
         };
     }
-    Err(BadLine { number: 1, slip: Slip::Count })
+    Err(BadLine {
+        number: 1,
+        slip: Slip::Count,
+    })
 }
 
 // Whether a claim stands in a draft.
@@ -134,7 +149,10 @@ pub fn load_text(draft: &mut Draft, text: &str) -> Result<(), BadLine>
             continue;
         }
         let Some(line) = parse_line(line) else {
-            return Err(BadLine { number, slip: Slip::NoLine });
+            return Err(BadLine {
+                number,
+                slip: Slip::NoLine,
+            });
         };
         due = match enter(&mut next, due, line) {
             Ok(due) => due,
@@ -146,6 +164,9 @@ pub fn load_text(draft: &mut Draft, text: &str) -> Result<(), BadLine>
             *draft = next;
             Ok(())
         }
-        _ => Err(BadLine { number, slip: Slip::Missing }),
+        _ => Err(BadLine {
+            number,
+            slip: Slip::Missing,
+        }),
     }
 }
