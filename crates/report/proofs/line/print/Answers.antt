@@ -2,7 +2,7 @@ use mathlib.Core.List.{_++_}
 use mathlib.Core.Path.{ap, _∙_}
 use native.Mathlib.Omega.{arith}
 use Rattle.std.specs.Of.String.{string-bytes}
-use Rattle.report.proofs.Pushing.{printed-more, printed-all}
+use Rattle.report.proofs.Printing.{printed-more, printed-all}
 use Rattle.report.proofs.line.print.Needs as need
 
 pub loop-line-again : need.loop-line-again

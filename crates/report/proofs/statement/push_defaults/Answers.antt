@@ -4,7 +4,7 @@ use mathlib.Core.Path.{refl, ap}
 use lib.ListN.{getD}
 use Rattle.std.proofs.shelf.Tests.{cond-true, cond-false}
 use Rattle.report.specs.Sheets.{default-lines}
-use Rattle.report.proofs.Pushing.{grown, kept}
+use Rattle.network.proofs.Growing.{grown, kept}
 use Rattle.report.proofs.statement.push_defaults.Needs as need
 use Rattle.report.proofs.statement.push_defaults.Needs.{then-sheet-member·in-Continue-push, else-sheet-member}
 

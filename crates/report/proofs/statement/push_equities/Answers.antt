@@ -1,6 +1,6 @@
 use mathlib.Core.Path.{refl}
 use Rattle.report.specs.Sheets.{equity-lines}
-use Rattle.report.proofs.Pushing.{grown}
+use Rattle.network.proofs.Growing.{grown}
 use Rattle.report.proofs.statement.push_equities.Needs as need
 
 pub loop-member-again : need.loop-member-again

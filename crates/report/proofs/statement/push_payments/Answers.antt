@@ -1,6 +1,6 @@
 use mathlib.Core.Path.{refl}
 use Rattle.report.specs.Sheets.{paid-lines}
-use Rattle.report.proofs.Pushing.{grown}
+use Rattle.network.proofs.Growing.{grown}
 use Rattle.report.proofs.statement.push_payments.Needs as need
 
 pub loop-debtor-again : need.loop-debtor-again

@@ -5,7 +5,7 @@ use lib.Dec.{eqb}
 use Rattle.std.proofs.shelf.Tests.{cond-true, cond-false, eq-eqb, ne-eqb}
 use Rattle.network.specs.Entries.{claim-at}
 use Rattle.report.specs.Sheets.{row-lines}
-use Rattle.report.proofs.Pushing.{grown, kept}
+use Rattle.network.proofs.Growing.{grown, kept}
 use Rattle.report.proofs.statement.push_row.Needs as need
 use Rattle.report.proofs.statement.push_row.Needs.{then-sheet-debtor-gt0·in-Continue-push, else-sheet-debtor-gt0}
 

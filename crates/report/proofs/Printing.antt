@@ -1,23 +1,12 @@
--- Lines pushed one after another.
+-- Lines printed one below the other.
 use mathlib.Core.List.{List, [], _∷_, _++_, append-assoc}
 use mathlib.Core.Path.{_≡_, sym, ap, _∙_}
-use Prim.Native.Nat.{ℕ, suc, _+_, _≤_, _<_}
-use native.Mathlib.Numerals.{add-one}
+use Prim.Native.Nat.{ℕ, _+_, _≤_, _<_}
 use lib.Chars.{codes}
 use lib.ListN.{length, getD, take}
 use Rattle.std.proofs.shelf.Lists.{append-nil, take-more, take-all}
 use Rattle.report.specs.Lines.{text-of, printed}
 use Rattle.report.specs.declared.line.Line.{Line}
-
--- f grows by a piece with each turn
-pub grown : (before now next : List Line) (f : ℕ → List Line) (m : ℕ) (piece : List Line) → now ≡ before ++ f m → next ≡ now ++ piece → f (suc m) ≡ f m ++ piece → next ≡ before ++ f (m + 1)
-grown before now next f m piece inv pushed step =
-    let more : f (m + 1) ≡ f m ++ piece = ap f (add-one m) ∙ step in
-    cc (append-assoc before (f m) piece)
-
--- a turn that pushes nothing
-pub kept : (before now next : List Line) (f : ℕ → List Line) (m : ℕ) → now ≡ before ++ f m → next ≡ now → f (suc m) ≡ f m ++ [] → next ≡ before ++ f (m + 1)
-kept before now next f m inv same step = grown before now next f m [] inv (same ∙ sym (append-nil now)) step
 
 printed-push : (lines : List Line) (line : Line) → printed (lines ++ line ∷ []) ≡ printed lines ++ (text-of line ++ codes "\n")
 printed-push [] line = append-nil (text-of line ++ codes "\n")
