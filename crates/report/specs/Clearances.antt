@@ -11,7 +11,7 @@ use Rattle.netfile.specs.Files.{file-of}
 use Rattle.netfile.specs.Loads.{FaultOf}
 use Rattle.netfile.specs.Records.{counted-fault}
 use Rattle.rules.specs.Classes.{classes-of}
-use Rattle.rules.specs.Ring.{ring-rule, RingRules}
+use Rattle.rules.specs.Ring.{ring-rule, ring-classes, RingRules}
 use Rattle.rules.specs.declared.ring.RingRulebook.{RingRulebook}
 use Rattle.clearing.specs.Networks.{Least}
 use Rattle.book.specs.declared.sheet.Sheet.{Sheet}
@@ -41,9 +41,9 @@ pub record Clears (input text : List ℕ) : Type 0 where
   pub sheet : Sheet
   pub short : length input ≤ 65536
   pub file : input ≡ file-of (draft .figures)
-  pub houses : RingRules (ring-rule rulebook) (classes-of (draft .figures))
-  pub life : Life (ring-rule rulebook) draft [] sheet
-  pub least : Least (network-of (draft .figures)) (division (ring-rule rulebook) (draft .figures)) (cells (sheet .paid))
+  pub houses : RingRules (ring-rule (ring-classes rulebook)) (classes-of (draft .figures))
+  pub life : Life (ring-rule (ring-classes rulebook)) draft [] sheet
+  pub least : Least (network-of (draft .figures)) (division (ring-rule (ring-classes rulebook)) (draft .figures)) (cells (sheet .paid))
   pub lines : text ≡ printed (lines-of sheet)
 
 -- whether the input was cleared, and what is then printed

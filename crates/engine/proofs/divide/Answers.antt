@@ -12,7 +12,7 @@ use Rattle.netfile.specs.Files.{file-of}
 use Rattle.rules.specs.Claims.{awards-fault}
 use Rattle.rules.specs.Classes.{classes-of}
 use Rattle.rules.specs.Laws.{Rule}
-use Rattle.rules.specs.Ring.{ring-rule, RingRules}
+use Rattle.rules.specs.Ring.{ring-rule, ring-classes, RingRules}
 use Rattle.engine.specs.Exports.{Divided}
 use Rattle.engine.proofs.divide.Needs as need
 
@@ -25,7 +25,7 @@ divided figures rules is houses house estate claims before after (Err e) given =
 pub returns : need.returns
 returns c =
     let rulebook = c .ring-rulebook-rulebook .result in
-    let houses = subst (λ (F : Figures). RingRules (ring-rule rulebook) (classes-of F)) (c .figures .ensures) (c .ring-rulebook-rulebook .ensures .rules) in
-    divided (c .load .last .draft .figures) (ring-rule rulebook) (c .in-Continue-load .ensures tt .loaded .1) houses
+    let houses = subst (λ (F : Figures). RingRules (ring-rule (ring-classes rulebook)) (classes-of F)) (c .figures .ensures) (c .ring-rulebook-rulebook .ensures .rules) in
+    divided (c .load .last .draft .figures) (ring-rule (ring-classes rulebook)) (c .in-Continue-load .ensures tt .loaded .1) houses
     (c .args .house) (c .args .estate) (c .args .claims .now) (c .args .awards .now) (c .awards .last .awards)
     (c .awards .result) (c .awards .ensures)

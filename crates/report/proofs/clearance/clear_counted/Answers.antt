@@ -3,7 +3,7 @@ use mathlib.Core.Path.{refl, sym, ap, subst, _∙_}
 use Rattle.network.specs.declared.draft.Draft.{Draft}
 use Rattle.network.specs.declared.figures.Figures.{Figures}
 use Rattle.rules.specs.Classes.{classes-of}
-use Rattle.rules.specs.Ring.{ring-rule, RingRules}
+use Rattle.rules.specs.Ring.{ring-rule, ring-classes, RingRules}
 use Rattle.clearing.proofs.Respects.{least-eq}
 use Rattle.book.specs.Tables.{cells, network-of}
 use Rattle.book.specs.Rulebooks.{division}
@@ -19,7 +19,7 @@ returns c =
     let draft = c .load .last .draft in
     let rulebook = c .ring-rulebook-rulebook .result in
     let sheet = c .close-sheet .result in
-    let life : Life (ring-rule rulebook) draft [] sheet =
+    let life : Life (ring-rule (ring-classes rulebook)) draft [] sheet =
     record { opened = c .open .result; worked = c .open .result; opens = c .open .ensures; works = rest; ends = c .close-sheet .ensures .ends } in
     let two = c .close-sheet .ensures .order draft draft (same draft) [] [] (c .open .result) sheet (c .open .ensures) rest (c .close-sheet .ensures .ends) life in
     record {
@@ -28,8 +28,8 @@ returns c =
       sheet = sheet;
       short = c .pre .short;
       file = c .in-rest .ensures tt .loaded .1;
-      houses = subst (λ (F : Figures). RingRules (ring-rule rulebook) (classes-of F)) (c .figures .ensures) (c .ring-rulebook-rulebook .ensures .rules);
+      houses = subst (λ (F : Figures). RingRules (ring-rule (ring-classes rulebook)) (classes-of F)) (c .figures .ensures) (c .ring-rulebook-rulebook .ensures .rules);
       life = life;
-      least = least-eq (network-of (draft .figures)) (division (ring-rule rulebook) (draft .figures)) (two .least) (cells (sheet .paid)) (λ i j a b. sym (two .first .ends i j a b)) (two .first .least);
+      least = least-eq (network-of (draft .figures)) (division (ring-rule (ring-classes rulebook)) (draft .figures)) (two .least) (cells (sheet .paid)) (λ i j a b. sym (two .first .ends i j a b)) (two .first .least);
       lines = c .in-Continue-text .ensures tt ∙ ap printed (c .as-slice .ensures .value ∙ c .in-Continue-lines .ensures tt);
     }
