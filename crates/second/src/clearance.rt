@@ -2,7 +2,6 @@
 use crate::flow::account_of_rounds;
 use crate::flow::least_payments;
 use crate::halt::Halt;
-use crate::halt::RefusalDisplay;
 use crate::queue::Rules;
 use crate::reading::read;
 use crate::statement::sheet_text;
@@ -37,7 +36,9 @@ pub fn clear(heap: Global, input: &[u8]) -> Result<Printed, AllocError> {
             })
         }
         Err(Halt::Refused(refusal)) => {
-            let text = format!(heap, "{refusal}\n")?;
+            let mut text = String::new(heap);
+            refusal.print(&mut text)?;
+            text.push('\n')?;
             Ok(Printed {
                 text,
                 cleared: false,

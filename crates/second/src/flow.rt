@@ -2,50 +2,45 @@
 use crate::network::Network;
 use crate::payments::Payments;
 use crate::queue::front;
+use crate::row::add_unit;
+use crate::row::at;
+use crate::row::put;
 use crate::statement::Account;
 use std::alloc::AllocError;
 use std::alloc::Global;
 
-// How far each member has come along its queue, and what its estate is.
+// The estate of each member, and the estate from which it has paid so far.
 #[derive(Drop)]
 struct Flow {
-    reached: Vec<usize>,
     estates: Vec<u32>,
+    spent: Vec<u32>,
 }
 
 impl Flow {
     fn start(heap: Global, network: &Network) -> Result<Flow, AllocError> {
-        let reached = vec![in heap; 0usize; network.members.len()]?;
         let estates = network.endowments(heap)?;
-        Ok(Flow { reached, estates })
+        let spent = vec![in heap; 0u32; estates.len()]?;
+        Ok(Flow { estates, spent })
     }
 
-    fn receive(&mut self, creditor: u8) {
-        if let Some(estate) = self.estates.get_mut(usize::from(creditor)) {
-            *estate = estate.saturating_add(1);
-        }
-    }
-
-    // A member pays on as far along its queue as the estate goes. Answers the units moved.
+    // A member pays on along its queue as far as the estate goes. Answers the units moved.
     fn pay_on(&mut self, member: usize, queue: &[u8], estate: u32) -> usize {
-        let reached = self.reached.get(member).copied().unwrap_or(0);
-        let mut moved = 0usize;
-        for creditor in queue.iter().take(estate as usize).skip(reached) {
-            self.receive(*creditor);
-            moved = moved.saturating_add(1);
+        let from = queue.len().min(at(self.spent.as_slice(), member) as usize);
+        let to = queue.len().min(estate as usize);
+        for i in from..to {
+            add_unit(self.estates.as_mut_slice(), queue[i] as usize);
         }
-        if let Some(place) = self.reached.get_mut(member) {
-            *place = reached.saturating_add(moved);
-        }
-        moved
+        put(self.spent.as_mut_slice(), member, estate);
+        to.saturating_sub(from)
     }
 
     // Everyone pays on at once, from what it had before.
     fn step_at_once(&mut self, queues: &[Vec<u8>]) -> Result<usize, AllocError> {
-        let estates = self.estates.clone()?;
+        let before = self.estates.clone()?;
         let mut moved = 0usize;
-        for ((member, queue), estate) in queues.iter().enumerate().zip(estates.iter()) {
-            moved = moved.saturating_add(self.pay_on(member, queue.as_slice(), *estate));
+        for member in 0..queues.len() {
+            let estate = at(before.as_slice(), member);
+            moved = moved.saturating_add(self.pay_on(member, queues[member].as_slice(), estate));
         }
         Ok(moved)
     }
@@ -53,15 +48,15 @@ impl Flow {
     // Everyone pays on in turn, from what it has by then.
     fn step_in_turn(&mut self, queues: &[Vec<u8>]) -> usize {
         let mut moved = 0usize;
-        for (member, queue) in queues.iter().enumerate() {
-            let estate = self.estates.get(member).copied().unwrap_or(0);
-            moved = moved.saturating_add(self.pay_on(member, queue.as_slice(), estate));
+        for member in 0..queues.len() {
+            let estate = at(self.estates.as_slice(), member);
+            moved = moved.saturating_add(self.pay_on(member, queues[member].as_slice(), estate));
         }
         moved
     }
 }
 
-// The least clearing matrix. Each step but the last moves a unit, so there are at most as many as units of
+// The least clearing matrix. Every step but the last moves a unit, so there are no more of them than units of
 // claims.
 pub fn least_payments(
     heap: Global,
@@ -74,16 +69,16 @@ pub fn least_payments(
             break;
         }
     }
-    let members = network.members.len();
-    let mut payments = Payments::none(heap, members)?;
-    for ((debtor, queue), reached) in queues.iter().enumerate().zip(flow.reached.iter()) {
-        let row = front(heap, queue.as_slice(), members, *reached)?;
+    let mut payments = Payments::none(heap, queues.len())?;
+    for debtor in 0..queues.len() {
+        let spent = at(flow.spent.as_slice(), debtor);
+        let row = front(heap, queues[debtor].as_slice(), queues.len(), spent)?;
         payments.set_row(debtor, row.as_slice());
     }
     Ok(payments)
 }
 
-// The account of closing a book without payments: nobody is passed over in a round.
+// The account of closing a book without payments. Nobody is passed over.
 pub(crate) fn account_of_rounds(
     heap: Global,
     network: &Network,

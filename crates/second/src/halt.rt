@@ -1,9 +1,9 @@
 // Why something is not done: it is refused, or there is no memory.
+use crate::text::say;
 use std::alloc::AllocError;
 use std::alloc::Refused;
-use std::fmt;
 
-// A refusal by its number, with what its layer names.
+// A refusal: its number, and what its layer names.
 #[derive(Clone, Copy)]
 pub enum Refusal {
     // the first byte of the record
@@ -19,18 +19,19 @@ pub enum Refusal {
 // Stands where a refusal names nobody.
 pub(crate) const NOBODY: u8 = 255;
 
-pub impl fmt::Display for Refusal as RefusalDisplay {
-    fn fmt<W: fmt::Write>(&self, f: &mut fmt::Formatter<W>) -> fmt::Result {
-        match *self {
-            Refusal::File(number, byte) => write!(f, "fault {number} file {byte} 255 255"),
+impl Refusal {
+    pub(crate) fn print(self, text: &mut String) -> Result<(), AllocError> {
+        let (number, layer, byte, debtor, creditor) = match self {
+            Refusal::File(number, byte) => (number, "file", byte, NOBODY, NOBODY),
             Refusal::Draft(number, byte, debtor, creditor) => {
-                write!(f, "fault {number} draft {byte} {debtor} {creditor}")
+                (number, "draft", byte, debtor, creditor)
             }
-            Refusal::Book(number, debtor, creditor) => {
-                write!(f, "fault {number} book 0 {debtor} {creditor}")
-            }
-            Refusal::Rule(number, creditor) => write!(f, "fault {number} rule 0 255 {creditor}"),
-        }
+            Refusal::Book(number, debtor, creditor) => (number, "book", 0, debtor, creditor),
+            Refusal::Rule(number, creditor) => (number, "rule", 0, NOBODY, creditor),
+        };
+        say(text, "fault", &[number as usize])?;
+        text.push(' ')?;
+        say(text, layer, &[byte, debtor as usize, creditor as usize])
     }
 }
 

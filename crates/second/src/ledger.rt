@@ -1,16 +1,17 @@
 // A book that is worked request by request.
 use crate::halt::Halt;
+use crate::halt::HaltFromAlloc;
 use crate::halt::NOBODY;
 use crate::halt::Refusal;
-use crate::halt::RefusalDisplay;
 use crate::network::Network;
 use crate::payments::Payments;
 use crate::queue::front;
+use crate::row::at;
+use crate::row::total;
 use crate::statement::Account;
+use crate::text::say;
 use std::alloc::AllocError;
 use std::alloc::Global;
-use std::fmt;
-use crate::halt::HaltFromAlloc;
 
 #[derive(Clone, Copy)]
 pub enum Request {
@@ -28,21 +29,31 @@ pub enum Request {
     Next,
 }
 
-impl fmt::Display for Request as RequestDisplay {
-    fn fmt<W: fmt::Write>(&self, f: &mut fmt::Formatter<W>) -> fmt::Result {
-        match *self {
-            Request::Pay(debtor, creditor, units) => write!(f, "pay {debtor} {creditor} {units}"),
-            Request::Settle(member) => write!(f, "settle {member}"),
-            Request::Round => write!(f, "round"),
-            Request::Paid(debtor, creditor) => write!(f, "paid {debtor} {creditor}"),
-            Request::Cash(member) => write!(f, "cash {member}"),
-            Request::Due(debtor, creditor) => write!(f, "due {debtor} {creditor}"),
-            Request::Next => write!(f, "next"),
+impl Request {
+    fn print(self, text: &mut String) -> Result<(), AllocError> {
+        match self {
+            Request::Pay(debtor, creditor, units) => {
+                say(
+                    text,
+                    "pay",
+                    &[debtor as usize, creditor as usize, units as usize],
+                )
+            }
+            Request::Settle(member) => say(text, "settle", &[member as usize]),
+            Request::Round => say(text, "round", &[]),
+            Request::Paid(debtor, creditor) => {
+                say(text, "paid", &[debtor as usize, creditor as usize])
+            }
+            Request::Cash(member) => say(text, "cash", &[member as usize]),
+            Request::Due(debtor, creditor) => {
+                say(text, "due", &[debtor as usize, creditor as usize])
+            }
+            Request::Next => say(text, "next", &[]),
         }
     }
 }
 
-// The payments so far in a network. The queues by which it is worked may differ from call to call.
+// The payments so far in a network. The queues by which it is worked may differ from request to request.
 #[derive(Drop)]
 pub struct Ledger {
     heap: Global,
@@ -62,45 +73,28 @@ impl Ledger {
     }
 
     fn estate(&self, member: usize) -> u32 {
-        let endowment = self.endowments.get(member).copied().unwrap_or(0);
-        endowment.saturating_add(self.payments.paid_to(member))
+        at(self.endowments.as_slice(), member).saturating_add(self.payments.paid_to(member))
     }
 
     fn due_row(&self, queues: &[Vec<u8>], member: usize) -> Result<Vec<u32>, AllocError> {
-        let members = self.endowments.len();
-        match queues.get(member) {
-            Some(queue) => front(
-                self.heap,
-                queue.as_slice(),
-                members,
-                self.estate(member) as usize,
-            ),
-            None => Ok(Vec::new(self.heap)),
+        if member >= queues.len() {
+            return Ok(Vec::new(self.heap));
         }
+        let queue = queues[member].as_slice();
+        front(self.heap, queue, queues.len(), self.estate(member))
     }
 
     fn has_receded(&self, member: usize, due: &[u32]) -> bool {
-        for (creditor, units) in due.iter().enumerate() {
-            if self.payments.paid(member, creditor) > *units {
+        for creditor in 0..due.len() {
+            if self.payments.paid(member, creditor) > due[creditor] {
                 return true;
             }
         }
         false
     }
 
-    fn know(&self, debtor: u8, creditor: u8) -> Result<(), Halt> {
-        if usize::from(debtor.max(creditor)) >= self.endowments.len() {
-            return Err(Halt::Refused(Refusal::Book(2, debtor, creditor)));
-        }
-        Ok(())
-    }
-
-    fn paid(&self, debtor: u8, creditor: u8) -> Result<u32, Halt> {
-        self.know(debtor, creditor)?;
-        Ok(
-            self.payments
-                .paid(usize::from(debtor), usize::from(creditor)),
-        )
+    fn knows(&self, member: u8) -> bool {
+        (member as usize) < self.endowments.len()
     }
 
     fn pay(
@@ -110,45 +104,45 @@ impl Ledger {
         creditor: u8,
         units: u32,
     ) -> Result<u32, Halt> {
-        self.know(debtor, creditor)?;
+        if !self.knows(debtor) || !self.knows(creditor) {
+            return Err(Halt::Refused(Refusal::Book(2, debtor, creditor)));
+        }
         if units == 0 {
             return Err(Halt::Refused(Refusal::Book(7, debtor, creditor)));
         }
-        let (from, to) = (usize::from(debtor), usize::from(creditor));
-        let due = self.due_row(queues, from)?;
-        if self.has_receded(from, due.as_slice()) {
+        let due = self.due_row(queues, debtor as usize)?;
+        if self.has_receded(debtor as usize, due.as_slice()) {
             return Err(Halt::Refused(Refusal::Book(8, debtor, creditor)));
         }
-        let paid = self.payments.paid(from, to);
-        let left = due.get(to).copied().unwrap_or(0).saturating_sub(paid);
-        if units > left {
+        let paid = self.payments.paid(debtor as usize, creditor as usize);
+        if units > at(due.as_slice(), creditor as usize).saturating_sub(paid) {
             return Err(Halt::Refused(Refusal::Book(9, debtor, creditor)));
         }
         let figure = paid.saturating_add(units);
-        self.payments.set(from, to, figure);
+        self.payments
+            .set(debtor as usize, creditor as usize, figure);
         Ok(figure)
     }
 
     fn settle(&mut self, queues: &[Vec<u8>], member: u8) -> Result<u32, Halt> {
-        if usize::from(member) >= self.endowments.len() {
+        if !self.knows(member) {
             return Err(Halt::Refused(Refusal::Book(2, member, NOBODY)));
         }
-        let debtor = usize::from(member);
-        let due = self.due_row(queues, debtor)?;
-        if self.has_receded(debtor, due.as_slice()) {
+        let due = self.due_row(queues, member as usize)?;
+        if self.has_receded(member as usize, due.as_slice()) {
             return Err(Halt::Refused(Refusal::Book(8, member, NOBODY)));
         }
-        let before = self.payments.paid_by(debtor);
-        self.payments.set_row(debtor, due.as_slice());
-        Ok(self.payments.paid_by(debtor).saturating_sub(before))
+        let before = self.payments.paid_by(member as usize);
+        self.payments.set_row(member as usize, due.as_slice());
+        Ok(total(due.as_slice()).saturating_sub(before))
     }
 
     // Units moved and members passed over.
     fn round(&mut self, queues: &[Vec<u8>]) -> Result<(usize, usize), AllocError> {
         let mut moved = 0usize;
         let mut passed_over = 0usize;
-        for (member, _queue) in (0u8..=255).zip(queues.iter()) {
-            match self.settle(queues, member) {
+        for member in 0..queues.len().min(32) {
+            match self.settle(queues, member as u8) {
                 Ok(units) => moved = moved.saturating_add(units as usize),
                 Err(Halt::Refused(_)) => passed_over = passed_over.saturating_add(1),
                 Err(Halt::NoMemory) => return Err(AllocError),
@@ -157,46 +151,51 @@ impl Ledger {
         Ok((moved, passed_over))
     }
 
+    fn paid(&self, debtor: u8, creditor: u8) -> Result<u32, Halt> {
+        if !self.knows(debtor) || !self.knows(creditor) {
+            return Err(Halt::Refused(Refusal::Book(2, debtor, creditor)));
+        }
+        Ok(self.payments.paid(debtor as usize, creditor as usize))
+    }
+
     fn cash(&self, member: u8) -> Result<u32, Halt> {
-        let number = usize::from(member);
-        if number >= self.endowments.len() {
+        if !self.knows(member) {
             return Err(Halt::Refused(Refusal::Book(2, member, NOBODY)));
         }
         Ok(
-            self.estate(number)
-                .saturating_sub(self.payments.paid_by(number)),
+            self.estate(member as usize)
+                .saturating_sub(self.payments.paid_by(member as usize)),
         )
     }
 
     fn due(&self, queues: &[Vec<u8>], debtor: u8, creditor: u8) -> Result<u32, Halt> {
-        self.know(debtor, creditor)?;
-        let due = self.due_row(queues, usize::from(debtor))?;
-        Ok(due.get(usize::from(creditor)).copied().unwrap_or(0))
-    }
-
-    // Whether a settle of the member would be accepted and move a unit.
-    fn would_pay(&self, queues: &[Vec<u8>], member: usize) -> Result<bool, AllocError> {
-        let due = self.due_row(queues, member)?;
-        let mut units = 0u32;
-        for award in due.iter() {
-            units = units.saturating_add(*award);
+        if !self.knows(debtor) || !self.knows(creditor) {
+            return Err(Halt::Refused(Refusal::Book(2, debtor, creditor)));
         }
-        let receded = self.has_receded(member, due.as_slice());
-        Ok(!receded && units > self.payments.paid_by(member))
+        let due = self.due_row(queues, debtor as usize)?;
+        Ok(at(due.as_slice(), creditor as usize))
     }
 
+    // The first member whose settle would be accepted and move a unit.
     fn next(&self, queues: &[Vec<u8>]) -> Result<Option<usize>, AllocError> {
-        for member in 0..self.endowments.len() {
-            if self.would_pay(queues, member)? {
+        for member in 0..queues.len() {
+            let due = self.due_row(queues, member)?;
+            let receded = self.has_receded(member, due.as_slice());
+            if !receded && total(due.as_slice()) > self.payments.paid_by(member) {
                 return Ok(Some(member));
             }
         }
         Ok(None)
     }
 
-    // Does what is requested, and answers the request with what came of it.
-    pub fn perform(&mut self, queues: &[Vec<u8>], request: Request) -> Result<String, AllocError> {
-        let heap = self.heap;
+    // Does what is requested; the text gets the request, and behind it what came of it.
+    pub fn perform(
+        &mut self,
+        queues: &[Vec<u8>],
+        request: Request,
+        text: &mut String,
+    ) -> Result<(), AllocError> {
+        request.print(text)?;
         let answer = match request {
             Request::Pay(debtor, creditor, units) => self.pay(queues, debtor, creditor, units),
             Request::Settle(member) => self.settle(queues, member),
@@ -205,18 +204,21 @@ impl Ledger {
             Request::Due(debtor, creditor) => self.due(queues, debtor, creditor),
             Request::Round => {
                 let (moved, passed_over) = self.round(queues)?;
-                return format!(heap, "{request}: {moved} {passed_over}\n");
+                return say(text, ":", &[moved, passed_over]);
             }
             Request::Next => {
                 return match self.next(queues)? {
-                    Some(member) => format!(heap, "{request}: {member}\n"),
-                    None => format!(heap, "{request}: none\n"),
+                    Some(member) => say(text, ":", &[member]),
+                    None => text.push_str(": none"),
                 };
             }
         };
         match answer {
-            Ok(units) => format!(heap, "{request}: {units}\n"),
-            Err(Halt::Refused(refusal)) => format!(heap, "{request}: {refusal}\n"),
+            Ok(units) => say(text, ":", &[units as usize]),
+            Err(Halt::Refused(refusal)) => {
+                text.push_str(": ")?;
+                refusal.print(text)
+            }
             Err(Halt::NoMemory) => Err(AllocError),
         }
     }

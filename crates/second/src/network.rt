@@ -1,4 +1,5 @@
 // A network as it stands in a file.
+use crate::row::put;
 use std::alloc::AllocError;
 use std::alloc::Global;
 
@@ -28,21 +29,11 @@ impl Network {
     pub(crate) fn claims_on(&self, heap: Global, debtor: usize) -> Result<Vec<u32>, AllocError> {
         let mut row = vec![in heap; 0u32; self.members.len()]?;
         for claim in self.claims.iter() {
-            if usize::from(claim.debtor) == debtor {
-                if let Some(units) = row.get_mut(usize::from(claim.creditor)) {
-                    *units = claim.units;
-                }
+            if claim.debtor as usize == debtor {
+                put(row.as_mut_slice(), claim.creditor as usize, claim.units);
             }
         }
         Ok(row)
-    }
-
-    pub(crate) fn classes(&self, heap: Global) -> Result<Vec<u8>, AllocError> {
-        let mut classes = Vec::new(heap);
-        for member in self.members.iter() {
-            classes.push(member.class)?;
-        }
-        Ok(classes)
     }
 
     pub(crate) fn endowments(&self, heap: Global) -> Result<Vec<u32>, AllocError> {
@@ -53,8 +44,8 @@ impl Network {
         Ok(endowments)
     }
 
-    // The claims of all members on all members together.
-    pub(crate) fn units_of_claims(&self) -> u32 {
+    // All claims together.
+    pub fn units_of_claims(&self) -> u32 {
         let mut units = 0u32;
         for claim in self.claims.iter() {
             units = units.saturating_add(claim.units);

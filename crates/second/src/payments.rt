@@ -1,18 +1,20 @@
 // A payment matrix.
+use crate::row::at;
+use crate::row::put;
 use std::alloc::AllocError;
 use std::alloc::Global;
 
-// What each debtor has paid each creditor, a row for each debtor.
+// What each debtor has paid each creditor: the rows of the debtors one behind the other.
 #[derive(Drop)]
 pub struct Payments {
     members: usize,
-    units: Vec<u32>,
+    rows: Vec<u32>,
 }
 
 impl Payments {
-    pub fn none(heap: Global, members: usize) -> Result<Payments, AllocError> {
-        let units = vec![in heap; 0u32; members.saturating_mul(members)]?;
-        Ok(Payments { members, units })
+    pub(crate) fn none(heap: Global, members: usize) -> Result<Payments, AllocError> {
+        let rows = vec![in heap; 0u32; members.saturating_mul(members)]?;
+        Ok(Payments { members, rows })
     }
 
     fn place(&self, debtor: usize, creditor: usize) -> usize {
@@ -20,22 +22,17 @@ impl Payments {
     }
 
     pub fn paid(&self, debtor: usize, creditor: usize) -> u32 {
-        self.units
-            .get(self.place(debtor, creditor))
-            .copied()
-            .unwrap_or(0)
+        at(self.rows.as_slice(), self.place(debtor, creditor))
     }
 
     pub(crate) fn set(&mut self, debtor: usize, creditor: usize, units: u32) {
         let place = self.place(debtor, creditor);
-        if let Some(paid) = self.units.get_mut(place) {
-            *paid = units;
-        }
+        put(self.rows.as_mut_slice(), place, units);
     }
 
     pub(crate) fn set_row(&mut self, debtor: usize, row: &[u32]) {
-        for (creditor, units) in row.iter().enumerate() {
-            self.set(debtor, creditor, *units);
+        for creditor in 0..row.len() {
+            self.set(debtor, creditor, row[creditor]);
         }
     }
 

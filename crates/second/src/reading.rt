@@ -1,12 +1,12 @@
 // Reading a network file byte by byte.
 use crate::halt::Halt;
+use crate::halt::HaltFromRefused;
 use crate::halt::NOBODY;
 use crate::halt::Refusal;
 use crate::network::Claim;
 use crate::network::Member;
 use crate::network::Network;
 use std::alloc::Global;
-use crate::halt::HaltFromRefused;
 
 // What is due next.
 #[derive(Clone, Copy, PartialEq, Eq)]

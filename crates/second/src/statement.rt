@@ -1,9 +1,9 @@
 // The sheet as it is printed.
 use crate::network::Network;
 use crate::payments::Payments;
+use crate::text::say;
 use std::alloc::AllocError;
 use std::alloc::Global;
-use std::fmt;
 
 // What closing took: rounds that moved units, units moved, and members passed over in the last round.
 #[derive(Clone, Copy)]
@@ -28,67 +28,51 @@ impl Account {
     }
 }
 
-#[derive(Clone, Copy)]
-struct Sheet<'a> {
-    network: &'a Network,
-    payments: &'a Payments,
-    account: Account,
-}
-
-impl Sheet<'_> {
-    fn equity(&self, member: usize, endowment: u32) -> u32 {
-        let estate = endowment.saturating_add(self.payments.paid_to(member));
-        estate.saturating_sub(self.payments.paid_by(member))
+// Whether a member has paid in total less than the claims on it.
+fn defaults(network: &Network, payments: &Payments, member: usize) -> bool {
+    let mut owed = 0u32;
+    for claim in network.claims.iter() {
+        if claim.debtor as usize == member {
+            owed = owed.saturating_add(claim.units);
+        }
     }
-
-    fn defaults(&self, member: usize) -> bool {
-        let mut owed = 0u32;
-        for claim in self.network.claims.iter() {
-            if usize::from(claim.debtor) == member {
-                owed = owed.saturating_add(claim.units);
-            }
-        }
-        self.payments.paid_by(member) < owed
-    }
-}
-
-impl fmt::Display for Sheet<'_> as SheetDisplay {
-    fn fmt<W: fmt::Write>(&self, f: &mut fmt::Formatter<W>) -> fmt::Result {
-        for claim in self.network.claims.iter() {
-            let debtor = usize::from(claim.debtor);
-            let creditor = usize::from(claim.creditor);
-            let units = self.payments.paid(debtor, creditor);
-            writeln!(f, "paid {debtor} {creditor} {units}")?;
-        }
-        for (number, member) in self.network.members.iter().enumerate() {
-            let units = self.equity(number, member.endowment);
-            writeln!(f, "equity {number} {units}")?;
-        }
-        for number in 0..self.network.members.len() {
-            if self.defaults(number) {
-                writeln!(f, "default {number}")?;
-            }
-        }
-        let Account {
-            rounds,
-            units,
-            passed_over,
-        } = self.account;
-        writeln!(f, "rounds {rounds} {units} {passed_over}")
-    }
+    payments.paid_by(member) < owed
 }
 
 // The lines of a sheet with these payments.
-pub fn sheet_text<'a>(
+pub fn sheet_text(
     heap: Global,
-    network: &'a Network,
-    payments: &'a Payments,
+    network: &Network,
+    payments: &Payments,
     account: Account,
 ) -> Result<String, AllocError> {
-    let sheet = Sheet {
-        network,
-        payments,
-        account,
-    };
-    format!(heap, "{sheet}")
+    let mut text = String::new(heap);
+    for claim in network.claims.iter() {
+        let (debtor, creditor) = (claim.debtor as usize, claim.creditor as usize);
+        let units = payments.paid(debtor, creditor) as usize;
+        say(&mut text, "paid", &[debtor, creditor, units])?;
+        text.push('\n')?;
+    }
+    for member in 0..network.members.len() {
+        let estate = network
+            .members[member]
+            .endowment
+            .saturating_add(payments.paid_to(member));
+        let equity = estate.saturating_sub(payments.paid_by(member));
+        say(&mut text, "equity", &[member, equity as usize])?;
+        text.push('\n')?;
+    }
+    for member in 0..network.members.len() {
+        if defaults(network, payments, member) {
+            say(&mut text, "default", &[member])?;
+            text.push('\n')?;
+        }
+    }
+    say(
+        &mut text,
+        "rounds",
+        &[account.rounds, account.units, account.passed_over],
+    )?;
+    text.push('\n')?;
+    Ok(text)
 }
