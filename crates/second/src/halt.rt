@@ -20,7 +20,7 @@ pub enum Refusal {
 pub(crate) const NOBODY: u8 = 255;
 
 impl Refusal {
-    pub(crate) fn print(self, text: &mut String) -> Result<(), AllocError> {
+    pub fn print(self, text: &mut String) -> Result<(), AllocError> {
         let (number, layer, byte, debtor, creditor) = match self {
             Refusal::File(number, byte) => (number, "file", byte, NOBODY, NOBODY),
             Refusal::Draft(number, byte, debtor, creditor) => {

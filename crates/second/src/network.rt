@@ -44,6 +44,14 @@ impl Network {
         Ok(endowments)
     }
 
+    pub fn classes(&self, heap: Global) -> Result<Vec<u8>, AllocError> {
+        let mut classes = Vec::new(heap);
+        for member in self.members.iter() {
+            classes.push(member.class)?;
+        }
+        Ok(classes)
+    }
+
     // All claims together.
     pub fn units_of_claims(&self) -> u32 {
         let mut units = 0u32;

@@ -25,7 +25,7 @@ pub enum Rules {
 }
 
 impl Rules {
-    fn of_house(self, house: u8) -> Rule {
+    pub fn of_house(self, house: u8) -> Rule {
         match self {
             Rules::Only(rule) => rule,
             Rules::Ring => match house {
@@ -40,10 +40,7 @@ impl Rules {
 
     // The queue of each member of a network.
     pub fn queues(self, heap: Global, network: &Network) -> Result<Vec<Vec<u8>>, AllocError> {
-        let mut classes = Vec::new(heap);
-        for member in network.members.iter() {
-            classes.push(member.class)?;
-        }
+        let classes = network.classes(heap)?;
         let mut queues = Vec::new(heap);
         for debtor in 0..network.members.len() {
             let rule = self.of_house(network.members[debtor].house);
