@@ -38,18 +38,13 @@ use second::sheet_text;
 use std::alloc::AllocError;
 use std::alloc::Global;
 
-const EQUAL_AWARDS: UnitRule<EqualAwards> = UnitRule {
-    standard: EqualAwards,
-};
-
-const JEFFERSON: UnitRule<Jefferson> = UnitRule {
-    standard: Jefferson,
-};
-
-// The rulebooks of one network that depend on its members.
-#[derive(Clone, Copy)]
+// The rulebooks of one network.
+#[derive(Drop)]
 struct Shelf {
     ring: RingRulebook,
+    equal_awards: UnitRule<EqualAwards>,
+    jefferson: UnitRule<Jefferson>,
+    dual: Dual<UnitRule<EqualAwards>>,
     classes: Classes<UnitRule<Jefferson>>,
 }
 
@@ -57,10 +52,10 @@ impl Shelf {
     fn of(draft: &Draft) -> Shelf {
         Shelf {
             ring: ring_rulebook(draft.figures()),
-            classes: Classes {
-                below: JEFFERSON,
-                table: ClassTable::of(draft.figures()),
-            },
+            equal_awards: UnitRule::new(EqualAwards),
+            jefferson: UnitRule::new(Jefferson),
+            dual: Dual::new(UnitRule::new(EqualAwards)),
+            classes: Classes::new(UnitRule::new(Jefferson), ClassTable::of(draft.figures())),
         }
     }
 
@@ -69,14 +64,9 @@ impl Shelf {
         match rules {
             Rules::Ring => book.perform(&self.ring, call),
             Rules::Only(Rule::Priority) => book.perform(&Priority, call),
-            Rules::Only(Rule::EqualAwards) => book.perform(&EQUAL_AWARDS, call),
-            Rules::Only(Rule::Jefferson) => book.perform(&JEFFERSON, call),
-            Rules::Only(Rule::DualOfEqualAwards) => book.perform(
-                &Dual {
-                    below: EQUAL_AWARDS,
-                },
-                call,
-            ),
+            Rules::Only(Rule::EqualAwards) => book.perform(&self.equal_awards, call),
+            Rules::Only(Rule::Jefferson) => book.perform(&self.jefferson, call),
+            Rules::Only(Rule::DualOfEqualAwards) => book.perform(&self.dual, call),
             Rules::Only(Rule::ClassesOverJefferson) => book.perform(&self.classes, call),
         }
     }

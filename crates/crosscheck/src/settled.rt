@@ -16,14 +16,6 @@ use rules::UnitRuleRulebook;
 use std::alloc::AllocError;
 use std::alloc::Global;
 
-const EQUAL_AWARDS: UnitRule<EqualAwards> = UnitRule {
-    standard: EqualAwards,
-};
-
-const JEFFERSON: UnitRule<Jefferson> = UnitRule {
-    standard: Jefferson,
-};
-
 // Three members of the classes 1, 0 and 0.
 const CLASSED: [u8; 27] = [
     1,
@@ -73,19 +65,17 @@ fn expect<R: Rulebook>(
 }
 
 pub fn compare_settled(heap: Global, tally: &mut Tally) -> Result<(), AllocError> {
-    expect(heap, tally, &EQUAL_AWARDS, 6, &[1, 4, 4], &[1, 3, 2])?;
-    expect(heap, tally, &JEFFERSON, 2, &[6, 3], &[2, 0])?;
-    expect(heap, tally, &JEFFERSON, 3, &[6, 3], &[2, 1])?;
-    let dual = Dual {
-        below: EQUAL_AWARDS,
-    };
+    let equal_awards = UnitRule::new(EqualAwards);
+    expect(heap, tally, &equal_awards, 6, &[1, 4, 4], &[1, 3, 2])?;
+    let jefferson = UnitRule::new(Jefferson);
+    expect(heap, tally, &jefferson, 2, &[6, 3], &[2, 0])?;
+    expect(heap, tally, &jefferson, 3, &[6, 3], &[2, 1])?;
+    let dual = Dual::new(UnitRule::new(EqualAwards));
     expect(heap, tally, &dual, 1, &[1, 1], &[0, 1])?;
     let Some(draft) = draft_of(&CLASSED) else {
         return tally.compare(heap, &CLASSED, "no network", "");
     };
-    let classes = Classes {
-        below: EQUAL_AWARDS,
-        table: ClassTable::of(draft.figures()),
-    };
+    let table = ClassTable::of(draft.figures());
+    let classes = Classes::new(UnitRule::new(EqualAwards), table);
     expect(heap, tally, &classes, 3, &[5, 2, 2], &[0, 2, 1])
 }
