@@ -1,4 +1,6 @@
 // audit: works one network through two orders of calls, and shows both sheets side by side.
+#![tactic(auto)]
+
 mod order;
 
 use anyhow::anyhow;

@@ -1,4 +1,6 @@
 // The book of payments of a network: opened on a draft, worked in any order, and closed with a sheet.
+#![tactic(auto)]
+
 mod book;
 mod call;
 mod close;

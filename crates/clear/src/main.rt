@@ -1,4 +1,6 @@
 // clear: reads a network file from standard input and prints its settlement sheet, or why it is refused.
+#![tactic(auto)]
+
 use anyhow::anyhow;
 use report::{LONGEST_INPUT, clear};
 use std::io::Read;

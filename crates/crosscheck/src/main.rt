@@ -1,5 +1,7 @@
 // crosscheck: compares the engine with the second implementation, and prints what was compared. Hand-picked cases come
 // from standard input. A difference is printed with its input, and the program ends with status 1.
+#![tactic(auto)]
+
 mod cases;
 mod clearings;
 mod damage;

@@ -1,5 +1,7 @@
 // The engine for callers in other languages: what clear prints, and the awards of the ring's rulebook.
 // A slice is passed as a pointer and a length, and nothing is passed for a `Global`.
+#![tactic(auto)]
+
 ghost use Rattle.std.specs.Prelude.{◌≡◌, length};
 ghost use Rattle.engine.specs.Exports.{put_front, Told, Divided, Numbered};
 

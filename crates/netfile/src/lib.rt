@@ -1,4 +1,6 @@
 // The network file: its records, the members that it counts, and a draft read from it or written into it.
+#![tactic(auto)]
+
 mod body;
 mod counting;
 mod due;

@@ -1,4 +1,6 @@
 // The network file on examples: one that is loaded and written back, and files with something wrong.
+#![tactic(auto)]
+
 #[cfg(test)]
 mod tests {
     use netfile::*;

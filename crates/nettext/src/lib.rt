@@ -1,4 +1,6 @@
 // A network as readable text: one line for the number of members, for each member and for each claim.
+#![tactic(auto)]
+
 mod line;
 mod reading;
 #[cfg(test)]

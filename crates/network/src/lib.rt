@@ -1,5 +1,7 @@
 // The figures of a network of members that owe one another, the draft in which they are entered,
 // and the faults by which every call of the engine refuses.
+#![tactic(auto)]
+
 mod draft;
 mod entries;
 mod fault;

@@ -1,5 +1,7 @@
 // A rule and standards of another author, under the layers that the engine ships, and the shipped rules on
 // examples.
+#![tactic(auto)]
+
 mod concentrated;
 #[cfg(test)]
 mod division;

@@ -1,4 +1,6 @@
 // What the engine reports of a network file: the lines of its settlement sheet, or why it was refused.
+#![tactic(auto)]
+
 mod clearance;
 mod line;
 mod statement;

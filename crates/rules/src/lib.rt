@@ -1,4 +1,6 @@
 // Rulebooks: how the estate of a debtor is divided among its creditors.
+#![tactic(auto)]
+
 mod choice;
 mod claims;
 mod class_table;

@@ -1,4 +1,6 @@
 // scribe: turns a readable text of a network into a network file, and back.
+#![tactic(auto)]
+
 use anyhow::anyhow;
 use netfile::{count, file_length, load, write};
 use nettext::{count_text, load_text, network_lines};

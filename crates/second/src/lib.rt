@@ -5,6 +5,8 @@
 // It goes another way than the engine. Each rule is a queue, the order in which a debtor pays the units of
 // the claims on it, so that what is due from an estate is the front of the queue; a network is cleared by
 // everyone paying on at once; and a file is read byte by byte.
+#![tactic(auto)]
+
 mod clearance;
 mod flow;
 mod halt;
