@@ -1,7 +1,6 @@
 // What is reported of whole inputs, on examples.
 #![tactic(auto)]
 
-
 #[cfg(test)]
 mod tests {
     use report::clear;

@@ -4,31 +4,16 @@ use Rattle.network.specs.Limits.{Barred}
 use Rattle.network.proofs.Tables.{cell_keeps, set_keeps}
 use Rattle.network.proofs.figures.Figures.set_claim.Goals as goal
 
-pub invariant-of-self : goal.invariant-of-self
-invariant-of-self c =
-    let f = c.args.self.now in (
-      f.some,
-      (
-        f.few,
-        (
-          f.table,
-          (
-            length-set f.claims _ _ ∙ f.rows,
-            (
-              set_keeps (λ i row. i < 32 → length row ≡ 32) [] f.claims c.args.debtor _ f.columns
-                  (λ h. length-set (get_or f.claims c.args.debtor []) _ _ ∙ f.columns c.args.debtor h),
-              (
-                f.fit,
-                (
-                  cell_keeps (λ i j x. x ≤ 10000) f.claims c.args.debtor c.args.creditor c.args.units f.small (omega arith),
-                  (
-                    cell_keeps (λ i j x. Barred f.n i j → x ≡ 0) f.claims c.args.debtor c.args.creditor c.args.units f.allowed (grind arith),
-                    tt,
-                  ),
-                ),
-              ),
-            ),
-          ),
-        ),
-      ),
-    )
+pub invariant_of-self : goal.invariant_of-self
+invariant_of-self c =
+    let f = c.args.self.now in record {
+      some = f.some;
+      few = f.few;
+      table = f.table;
+      rows = length-set f.claims _ _ ∙ f.rows;
+      columns = set_keeps (λ i row. i < 32 → length row ≡ 32) [] f.claims c.args.debtor _ f.columns
+          (λ h. length-set (get_or f.claims c.args.debtor []) _ _ ∙ f.columns c.args.debtor h);
+      fit = f.fit;
+      small = cell_keeps (λ i j x. x ≤ 10000) f.claims c.args.debtor c.args.creditor c.args.units f.small (omega arith);
+      allowed = cell_keeps (λ i j x. Barred f.n i j → x ≡ 0) f.claims c.args.debtor c.args.creditor c.args.units f.allowed (grind arith);
+    }
