@@ -1,6 +1,6 @@
 -- Jefferson's awards leave nobody a whole unit short of its proportional share.
 use Rattle.std.proofs.Common.{◌≡◌, ℕ, zero, suc, ◌+◌, ◌*◌, ◌<◌, ◌≤◌, List, [], ◌∷◌, length, get_or, sum, ⊎_elim, mul_comm, add-mul, mul-le-mul, mul-add, arith}
-use Rattle.std.proofs.lemmas.List.Sums.{sum_by_cons}
+use Rattle.std.proofs.lemmas.List.Sums.{sum_by-cons}
 use Rattle.std.proofs.lemmas.Bool.{cases_lt}
 use Rattle.rules.specs.Claims.{Admitted}
 use Rattle.rules.specs.Standards.{jefferson_score}
@@ -18,7 +18,7 @@ module _ (x y : ℕ) where
   in_all [] (c ∷ cs) same le = absurd (omega arith)
   in_all (h ∷ hs) [] same le = absurd (omega arith)
   in_all (h ∷ hs) (c ∷ cs) same le =
-      rw (sum_by_cons (λ x. x) h hs, sum_by_cons (λ x. x) c cs)
+      rw (sum_by-cons (λ x. x) h hs, sum_by-cons (λ x. x) c cs)
       (omega (arith, mul-add x h (sum hs), add-mul c (sum cs) y, le 0, in_all hs cs (omega arith) (λ k. le (suc k))))
 
   in_all_strictly :
@@ -28,10 +28,10 @@ module _ (x y : ℕ) where
   in_all_strictly [] (c ∷ cs) j same lt le less = absurd (omega arith)
   in_all_strictly (h ∷ hs) [] j same lt le less = absurd (omega arith)
   in_all_strictly (h ∷ hs) (c ∷ cs) zero same lt le less =
-      rw (sum_by_cons (λ x. x) h hs, sum_by_cons (λ x. x) c cs)
+      rw (sum_by-cons (λ x. x) h hs, sum_by-cons (λ x. x) c cs)
       (omega (arith, mul-add x h (sum hs), add-mul c (sum cs) y, less, in_all hs cs (omega arith) (λ k. le (suc k))))
   in_all_strictly (h ∷ hs) (c ∷ cs) (suc j) same lt le less =
-      rw (sum_by_cons (λ x. x) h hs, sum_by_cons (λ x. x) c cs)
+      rw (sum_by-cons (λ x. x) h hs, sum_by-cons (λ x. x) c cs)
       (omega (arith, mul-add x h (sum hs), add-mul c (sum cs) y, le 0, in_all_strictly hs cs j (omega arith) (omega arith) (λ k. le (suc k)) less))
 
 quota : (cs hs : List ℕ) → length hs ≡ length cs → ((k : ℕ) → get_or hs k 0 ≤ get_or cs k 0) → Proportionate cs hs → LowerQuota cs hs

@@ -2,7 +2,7 @@
 use Rattle.std.specs.Prelude.{◌≡◌, ℕ, zero, suc, ◌<◌, ◌≤◌, ◌⊎◌, List, [], ◌∷◌, length, sum, slice_index, refl}
 use Rattle.std.proofs.Common.{inl, inr, ⊎_elim, sym, arith}
 use Rattle.std.proofs.lemmas.List.{get_or_past}
-use Rattle.std.proofs.lemmas.List.Sums.{sum_by_cons}
+use Rattle.std.proofs.lemmas.List.Sums.{sum_by-cons}
 use Rattle.std.proofs.lemmas.Bool.{cases_eq, cases_lt}
 use Rattle.rules.specs.Lists.{sum_le}
 
@@ -12,8 +12,8 @@ same_by_sum [] [] same le all = refl
 same_by_sum [] (y ∷ ys) same le all = absurd (omega arith)
 same_by_sum (x ∷ xs) [] same le all = absurd (omega arith)
 same_by_sum (x ∷ xs) (y ∷ ys) same le all =
-    let total-x = sum_by_cons (λ x. x) x xs in
-    let total-y = sum_by_cons (λ x. x) y ys in
+    let total-x = sum_by-cons (λ x. x) x xs in
+    let total-y = sum_by-cons (λ x. x) y ys in
     let first : x ≤ y = le 0 in
     let rest : sum xs ≤ sum ys = sum_le xs ys (omega arith) (λ k lt. le (suc k)) in
     let head : x ≡ y = omega arith in

@@ -2,7 +2,7 @@
 use Rattle.std.specs.Prelude.{◌≡◌, ℕ, zero, suc, ◌+◌, ◌-◌, ◌*◌, ◌<◌, ◌≤◌, List, [], ◌∷◌, length, replicate, sum, slice_index, slice_index_or, refl}
 use Rattle.std.proofs.Common.{sym, ap, arith}
 use Rattle.std.proofs.lemmas.List.FromFn.{length-map-range_with_len, get_or-map-range_with_len}
-use Rattle.std.proofs.lemmas.List.Sums.{sum_by_cons}
+use Rattle.std.proofs.lemmas.List.Sums.{sum_by-cons}
 use Rattle.rules.specs.Claims.{Admitted}
 use Rattle.rules.specs.Places.{each, plus, minus}
 
@@ -27,7 +27,7 @@ pub sum_plus : (xs ys : List ℕ) → sum (plus xs ys) ≡ sum xs + sum ys
 sum_plus [] ys = omega arith
 sum_plus (x ∷ xs) [] = omega arith
 sum_plus (x ∷ xs) (y ∷ ys) =
-    omega (arith, sum_plus xs ys, sum_by_cons (λ x. x) x xs, sum_by_cons (λ x. x) y ys, sum_by_cons (λ x. x) (x + y) (plus xs ys))
+    omega (arith, sum_plus xs ys, sum_by-cons (λ x. x) x xs, sum_by-cons (λ x. x) y ys, sum_by-cons (λ x. x) (x + y) (plus xs ys))
 
 pub length_minus : (xs ys : List ℕ) → length (minus xs ys) ≡ length xs
 length_minus [] ys = refl
@@ -49,14 +49,14 @@ sum_minus (x ∷ xs) (y ∷ ys) same le =
       arith,
       le 0,
       sum_minus xs ys (omega arith) (λ k. le (suc k)),
-      sum_by_cons (λ x. x) x xs,
-      sum_by_cons (λ x. x) y ys,
-      sum_by_cons (λ x. x) (x - y) (minus xs ys),
+      sum_by-cons (λ x. x) x xs,
+      sum_by-cons (λ x. x) y ys,
+      sum_by-cons (λ x. x) (x - y) (minus xs ys),
     )
 
 pub sum_zeros : (n : ℕ) → sum (replicate n 0) ≡ 0
 sum_zeros zero = refl
-sum_zeros (suc n) = omega (arith, sum_zeros n, sum_by_cons (λ x. x) 0 (replicate n 0))
+sum_zeros (suc n) = omega (arith, sum_zeros n, sum_by-cons (λ x. x) 0 (replicate n 0))
 
 pub get_or_zeros : (n k : ℕ) → slice_index_or {A = ℕ} (replicate n 0) k 0 ≡ 0
 get_or_zeros zero k = refl
@@ -69,11 +69,11 @@ sum_le [] [] same le = omega arith
 sum_le [] (y ∷ ys) same le = omega arith
 sum_le (x ∷ xs) [] same le = absurd (omega arith)
 sum_le (x ∷ xs) (y ∷ ys) same le =
-    omega (arith, le 0 (omega arith), sum_le xs ys (omega arith) (λ k lt. le (suc k) (omega arith)), sum_by_cons (λ x. x) x xs, sum_by_cons (λ x. x) y ys)
+    omega (arith, le 0 (omega arith), sum_le xs ys (omega arith) (λ k lt. le (suc k) (omega arith)), sum_by-cons (λ x. x) x xs, sum_by-cons (λ x. x) y ys)
 
 sum_small : (cs : List ℕ) → ((k : ℕ) → slice_index cs k ≤ 10000) → sum cs ≤ 10000 * length cs
 sum_small [] small = omega arith
-sum_small (c ∷ cs) small = omega (arith, small 0, sum_small cs (λ k. small (suc k)), sum_by_cons (λ x. x) c cs)
+sum_small (c ∷ cs) small = omega (arith, small 0, sum_small cs (λ k. small (suc k)), sum_by-cons (λ x. x) c cs)
 
 pub admitted_total : (cs : List ℕ) → Admitted cs → sum cs ≤ 320000
 admitted_total cs ok = omega (arith, sum_small cs ok.small, ok.few)

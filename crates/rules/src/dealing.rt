@@ -25,7 +25,7 @@ pub(crate) fn keep_scores<S: Standard>(
     requires few { length claims.now ≤ 32 }
     requires same { length held.now ≡ length claims.now }
     requires room { length heads.old ≡ length claims.now }
-    ensures { Heads (scored standard.now) claims.now held.now heads.new }
+    ensures { Heads (S.scored standard.now) claims.now held.now heads.new }
 {
     for k in 0..claims.len() {
         heads[k] = standard.score(k as u8, claims[k], held[k]);
@@ -91,9 +91,9 @@ pub(crate) fn deal<S: Standard>(
 )
     requires admitted { Admitted claims.now }
     requires same { length awards.old ≡ length claims.now }
-    requires begun { Underway (scored standard.now) claims.now held awards.old heads.old }
+    requires begun { Underway (S.scored standard.now) claims.now held awards.old heads.old }
     requires order { held ≤ units }
-    ensures { awards.new ≡ dealt (scored standard.now) claims.now units }
+    ensures { awards.new ≡ dealt (S.scored standard.now) claims.now units }
 {
     for _unit in held..units {
         if let Some(j) = pick(heads, claims, awards) {

@@ -46,7 +46,7 @@ fn upper(p: (u32, u32), q: (u32, u32)) -> (u32, u32)
 fn least_held<S: Standard>(standard: &S, claims: &[u32], held: &[u32]) -> (u32, u32)
     requires few { length claims.now ≤ 32 }
     requires same { length held.now ≡ length claims.now }
-    ensures { Small result × UnderHeld (scored standard.now) claims.now held.now (length claims.now) result }
+    ensures { Small result × UnderHeld (S.scored standard.now) claims.now held.now (length claims.now) result }
 {
     // no score is higher
     let mut least = (65_535, 1);
@@ -84,9 +84,9 @@ fn check_guess<S: Standard>(
 ) -> Option<u32>
     requires admitted { Admitted claims.now }
     requires same { length guess.now ≡ length claims.now }
-    requires scores { Heads (scored standard.now) claims.now guess.now heads.now }
-    requires falling { NeverRises (scored standard.now) }
-    ensures { IfSome result (λ n. (n ≤ units) × (guess.now ≡ dealt (scored standard.now) claims.now n)) }
+    requires scores { Heads (S.scored standard.now) claims.now guess.now heads.now }
+    requires falling { NeverRises (S.scored standard.now) }
+    ensures { IfSome result (λ n. (n ≤ units) × (guess.now ≡ dealt (S.scored standard.now) claims.now n)) }
 {
     let held = held_within(units, claims, guess)?;
     let least = least_held(standard, claims, guess);
@@ -110,7 +110,7 @@ pub(crate) fn begin<S: Standard>(
     requires admitted { Admitted claims.now }
     requires same { length awards.old ≡ length claims.now }
     requires room { length heads.old ≡ length claims.now }
-    ensures begun { Underway (scored standard.now) claims.now result awards.new heads.new }
+    ensures begun { Underway (S.scored standard.now) claims.now result awards.new heads.new }
     ensures order { result ≤ units }
 {
     awards.fill(0);

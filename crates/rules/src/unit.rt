@@ -44,7 +44,7 @@ fn divide<S: Standard>(
     requires admitted { Admitted claims.now }
     requires same { length awards.old ≡ length claims.now }
     requires room { length heads.old ≡ length claims.now }
-    ensures { awards.new ≡ dealt (scored standard.now) claims.now units }
+    ensures { awards.new ≡ dealt (S.scored standard.now) claims.now units }
 {
     let held = begin(standard, units, claims, heads, awards);
     deal(standard, held, units, claims, heads, awards);

@@ -13,9 +13,9 @@ loop-unit-preserved g c =
     let cs = c.args.claims.now in
     elim c.match-pick.branch [
       | in-Some w ↦
-          unit_goes f small nothing cs c.loop-unit.awards c.loop-unit.heads c.loop-unit.-unit c.loop-unit.invariant w.in-Some.j c.match-pick.awards w.score.result c.match-pick.heads
+          unit_goes f small nothing cs c.loop-unit.awards c.loop-unit.heads c.loop-unit._unit c.loop-unit.invariant w.in-Some.j c.match-pick.awards w.score.result c.match-pick.heads
           w.in-Some.ensures.value w.in-Some.ensures.short.0 (omega arith) w.awards-is w.score.ensures w.heads-is
       | in_default w ↦
           simp (w.awards-is, w.heads-is)
-          (unit_stays f small nothing cs c.loop-unit.awards c.loop-unit.heads c.loop-unit.-unit c.loop-unit.invariant w.in_default.ensures.value)
+          (unit_stays f small nothing cs c.loop-unit.awards c.loop-unit.heads c.loop-unit._unit c.loop-unit.invariant w.in_default.ensures.value)
     ]

@@ -8,9 +8,9 @@ returns-then-higher g c =
     let f = g.S.Standard.scored c.args.standard.now in
     let positive = (g.met.S.Standard.measured c.args.standard.now).positive in
     let cs = c.args.claims.now in
-    let held = c.in-ok-held.ensures in (
+    let held = c.in_ok-held.ensures in (
       held.1,
-      guess_is_dealt f positive cs c.args.guess.now c.args.heads.now held.2 c.requires.scores c.least-held-least.result c.greatest-wanted-greatest.result
-          c.least-held-least.ensures.1 c.greatest-wanted-greatest.ensures.1 (apart_from _ _ c.higher.result c.higher.ensures c.if-higher.true) c.requires.falling c.requires.admitted c.requires.same
+      guess_is_dealt f positive cs c.args.guess.now c.args.heads.now held.2 c.requires.scores c.least_held-least.result c.greatest_wanted-greatest.result
+          c.least_held-least.ensures.1 c.greatest_wanted-greatest.ensures.1 (apart_from _ _ c.higher.result c.higher.ensures c.if-higher.true) c.requires.falling c.requires.admitted c.requires.same
           ∙ sym (ap (dealt f cs) held.0),
     )

@@ -5,8 +5,8 @@ use Rattle.rules.specs.InTurnLaws.{nothing_served, served_in_full}
 use Rattle.rules.proofs.in_turn.serve.Goals as goal
 use Rattle.rules.proofs.in_turn.serve.Goals.{then-share-total, else-share-total+then-share-gt0, else-share-total+else-share-gt0}
 
-pub add-to-requires-then-share-gt0 : goal.add-to-requires-then-share-gt0
-add-to-requires-then-share-gt0 g c =
+pub add_to-requires-then-share-gt0 : goal.add_to-requires-then-share-gt0
+add_to-requires-then-share-gt0 g c =
     let f = g.R.Rulebook.awarded c.args.rulebook.now c.args.house in
     let laws = g.met.R.Rulebook.lawful c.args.rulebook.now c.args.house in
     let cs : List ℕ = c.args.part.now in
@@ -24,14 +24,14 @@ returns g c =
     let cs : List ℕ = c.args.part.now in
     let e : ℕ = c.min-share.result in
     let now : List ℕ = c.args.awards.now in
-    let worth : e ≡ min c.args.left (sum cs) = c.min-share.ensures ∙ ap (min c.args.left) c.claims-total-total.ensures in
+    let worth : e ≡ min c.args.left (sum cs) = c.min-share.ensures ∙ ap (min c.args.left) c.claims_total-total.ensures in
     let served : c.if-share-total.awards ≡ plus now (f e cs) =
     elim c.if-share-total.branch [
       | then-share-total w ↦
-          let all : e ≡ sum cs = w.if-share-total.true ∙ c.claims-total-total.ensures in
-          w.awards-is ∙ w.add-to.ensures ∙ ap (plus now) (sym (ap (λ x. f x cs) all ∙ served_in_full f laws cs c.requires.admitted))
+          let all : e ≡ sum cs = w.if-share-total.true ∙ c.claims_total-total.ensures in
+          w.awards-is ∙ w.add_to.ensures ∙ ap (plus now) (sym (ap (λ x. f x cs) all ∙ served_in_full f laws cs c.requires.admitted))
       | else-share-total+then-share-gt0 w ↦
-          w.awards-is ∙ w.add-to-then-share-gt0.ensures ∙ ap (plus now) (filled cs _ w.awards.result _ _ _ c.requires.admitted (omega arith) w.awards.ensures)
+          w.awards-is ∙ w.add_to-then-share-gt0.ensures ∙ ap (plus now) (filled cs _ w.awards.result _ _ _ c.requires.admitted (omega arith) w.awards.ensures)
       | else-share-total+else-share-gt0 w ↦
           let none : e ≡ 0 = omega (arith, w.if-share-gt0.false) in
           w.awards-is ∙ nothing_served f laws cs now c.requires.admitted c.requires.same ∙ sym (ap (λ x. plus now (f x cs)) none)

@@ -33,14 +33,11 @@ module _ (F : Figures) (ts : List ℕ) (n : ℕ) (wide : length ts ≡ 32) (past
       ext_get_or 0 ts (classes_of F) (wide ∙ sym (length-map F.members (λ m. m.class) ∙ F.table))
       (λ k lt. at_each k ∙ sym (get_or-map (λ m. m.class) F.members k nobody 0 (omega (arith, F.table))))
 
-pub invariant-of-result : goal.invariant-of-result
-invariant-of-result c = (
-  c.loop-k.invariant.0,
-  (
-    low c.args.figures.now c.loop-k.classes c.loop-k.k c.loop-k.invariant.0 c.loop-k-test.false c.loop-k.invariant.1,
-    tt,
-  ),
-)
+pub invariant_of-result : goal.invariant_of-result
+invariant_of-result c = record {
+  table = c.loop-k.invariant.0;
+  low = low c.args.figures.now c.loop-k.classes c.loop-k.k c.loop-k.invariant.0 c.loop-k-test.false c.loop-k.invariant.1;
+}
 
 pub returns : goal.returns
 returns c =
