@@ -19,32 +19,32 @@ refused d s e f due b inv fails =
     (refl, record { network = f; due = due; byte = b; count = inv.1.0; within = inv.0; before = inv.1.1; fails = fails })
 
 pub read-requires : goal.read-requires
-read-requires c = omega (arith, ap length c.rest-from-rest.ensures.bytes, length-drop c.loop-byte.byte c.args.file.now)
+read-requires c = omega (arith, ap length c.rest_from-rest.ensures.bytes, length-drop c.loop-byte.byte c.args.file.now)
 
-pub returns-in-err-due : goal.returns-in-err-due
-returns-in-err-due c =
-    let p = err_from_is_err_and c.from-residual.result c.from-residual.ensures.1 in
+pub returns-in_err-due : goal.returns-in_err-due
+returns-in_err-due c =
+    let p = err_from_is_err_and c.from_residual.result c.from_residual.ensures.1 in
     let d = c.args.draft.now in
     let s = c.args.file.now in
     let f = c.loop-byte.next.figures in
     let due = c.loop-byte.due in
     let b = c.loop-byte.byte in
     let inv = c.loop-byte.invariant in
-    let same = ap (λ n. due_fault n due b (drop b s)) (sym inv.1.0) ∙ ap (due_fault f.n due b) (sym c.rest-from-rest.ensures.bytes) in
-    let all : Loaded d s c.from-residual.result d = rw (p.1, p.2) (refused d s _ f due b inv (same ∙ c.in-err-due.ensures.0)) in
-    record { loaded = all; accepts = accepts d d s c.from-residual.result all; only = only d d s c.from-residual.result all }
+    let same = ap (λ n. due_fault n due b (drop b s)) (sym inv.1.0) ∙ ap (due_fault f.n due b) (sym c.rest_from-rest.ensures.bytes) in
+    let all : Loaded d s c.from_residual.result d = rw (p.1, p.2) (refused d s _ f due b inv (same ∙ c.in_err-due.ensures.0)) in
+    record { loaded = all; accepts = accepts d d s c.from_residual.result all; only = only d d s c.from_residual.result all }
 
 pub loop-byte-preserved : goal.loop-byte-preserved
 loop-byte-preserved c =
     let f = c.loop-byte.next.figures in
     let g = c.read.new.draft.figures in
-    let rest = c.rest-from-rest in
-    let read = c.in-ok-due.ensures in
-    turn f g c.args.draft.now.figures.n c.loop-byte.byte c.loop-byte.due c.in-ok-due.due c.args.file.now rest.result.now
-    rest.ensures.bytes (λ i. omega (arith, c.type-inv.file i)) c.loop-byte-test.true c.loop-byte.invariant.1 read.0 read.1.0 read.1.1
+    let rest = c.rest_from-rest in
+    let read = c.in_ok-due.ensures in
+    turn f g c.args.draft.now.figures.n c.loop-byte.byte c.loop-byte.due c.in_ok-due.due c.args.file.now rest.result.now
+    rest.ensures.bytes (λ i. omega (arith, c.type_inv.file i)) c.loop-byte-test.true c.loop-byte.invariant.1 read.0 read.1.0 read.1.1
 
-pub returns-in-default : goal.returns-in-default
-returns-in-default c =
+pub returns-in_default : goal.returns-in_default
+returns-in_default c =
     let d = c.args.draft.now in
     let s = c.args.file.now in
     let due = c.loop-byte.due in

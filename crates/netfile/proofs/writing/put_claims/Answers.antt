@@ -15,7 +15,7 @@ put-end-requires c =
     let f = c.args.figures.now in
     let room = run_room (claim_bytes f) c.loop-place.place 1024 c.loop-place-test.true in
     let long = ap length (claim_some f c.loop-place.place c.if-units-gt0.true) in
-    omega (arith, room, c.requires, c.loop-place.invariant.ends, ap length c.claim-record-record.ensures, long)
+    omega (arith, room, c.requires, c.loop-place.invariant.ends, ap length c.claim_record-record.ensures, long)
 
 pub loop-place-preserved : goal.loop-place-preserved
 loop-place-preserved c =
@@ -25,7 +25,7 @@ loop-place-preserved c =
     let room = run_room F p 1024 c.loop-place-test.true in
     elim c.if-units-gt0.branch [
       | then-units-gt0 w ↦
-          let is = w.claim-record-record.ensures ∙ sym (claim_some f p w.if-units-gt0.true) in
+          let is = w.claim_record-record.ensures ∙ sym (claim_some f p w.if-units-gt0.true) in
           put_more F c.loop-place.invariant (put_as w.put-end.ensures is w.end-is w.buffer-is) (omega (arith, room, c.requires))
       | else-units-gt0 w ↦ put_as (put_skip F (claim_none f p w.if-units-gt0.false) c.loop-place.invariant) refl w.end-is w.buffer-is
     ]
