@@ -82,7 +82,7 @@ fn queue_of(
             units.push(unit_of(rule, class, creditor as u8, claim, held))?;
         }
     }
-    units.sort();
+    units.sort_unstable();
     if let Rule::DualOfEqualAwards = rule {
         units.reverse();
     }
