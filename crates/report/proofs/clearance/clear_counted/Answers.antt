@@ -16,7 +16,7 @@ same draft = record { members = refl; endowments = λ i _. refl; houses = λ i _
 pub returns : goal.returns
 returns c =
     let draft = c.load.new.draft in
-    let rulebook = c.ring-rulebook-rulebook.result in
+    let rulebook = c.ring_rulebook-rulebook.result in
     let sheet = c.close-sheet.result in
     let life : Life (ring_rule (ring_classes rulebook)) draft [] sheet =
     record { opened = c.open.result; worked = c.open.result; opens = c.open.ensures; works = rest; ends = c.close-sheet.ensures.ends } in
@@ -27,8 +27,8 @@ returns c =
       sheet = sheet;
       short = c.requires.short;
       file = c.in_default.ensures.loaded.1;
-      houses = subst (λ (F : Figures). RingRules (ring_rule (ring_classes rulebook)) (classes_of F)) c.figures.ensures c.ring-rulebook-rulebook.ensures.rules;
+      houses = subst (λ (F : Figures). RingRules (ring_rule (ring_classes rulebook)) (classes_of F)) c.figures.ensures c.ring_rulebook-rulebook.ensures.rules;
       life = life;
       least = least_eq (network_of draft.figures) (division (ring_rule (ring_classes rulebook)) draft.figures) two.least (cells sheet.paid) (λ i j a b. sym (two.first.ends i j a b)) two.first.least;
-      lines = c.in-ok-text.ensures ∙ ap printed (c.as-slice.ensures.value ∙ c.in-ok-lines.ensures);
+      lines = c.in_ok-text.ensures ∙ ap printed (c.as_slice.ensures.value ∙ c.in_ok-lines.ensures);
     }

@@ -4,8 +4,8 @@ use Rattle.report.proofs.Printing.{number_more}
 use Rattle.report.proofs.writing.+push_number.Goals as goal
 
 pub returns-then-n-lt10 : goal.returns-then-n-lt10
-returns-then-n-lt10 t c = rw (decimal_digit c.args.n c.if-n-lt10.true) c.push-digit.ensures
+returns-then-n-lt10 t c = rw (decimal_digit c.args.n c.if-n-lt10.true) c.push_digit.ensures
 
 pub returns : goal.returns
 returns t c =
-    number_more c.push-digit-2.result _ _ _ c.args.n c.if-n-lt10.false (omega arith) c.in-ok-push-number.ensures c.push-digit-2.ensures
+    number_more c.push_digit-2.result _ _ _ c.args.n c.if-n-lt10.false (omega arith) c.in_ok-push_number.ensures c.push_digit-2.ensures
