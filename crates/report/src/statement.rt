@@ -42,7 +42,8 @@ fn push_defaults(lines: &mut Vec<Line>, sheet: &Sheet) -> Result<(), AllocError>
     ensures { OnOk result (lines.new.items ≡ lines.old.items ++ default_lines sheet.now sheet.now.figures.n) }
 {
     for member in 0..sheet.figures.n {
-        if sheet.defaults[member as usize] {
+        let defaulted = sheet.defaults[member as usize];
+        if defaulted {
             lines.push(Line::Default(member))?;
         }
     }
