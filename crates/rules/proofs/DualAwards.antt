@@ -7,7 +7,7 @@ use Rattle.rules.specs.Dual.{shortfall, dual}
 use Rattle.rules.specs.Laws.{Rule, Lawful}
 use Rattle.rules.specs.Places.{minus}
 use Rattle.rules.specs.Theorems.{Divides, Only, DualOf}
-use Rattle.rules.specs.Exchange.{same_by_sum}
+use Rattle.rules.proofs.Exchange.{same_by_sum}
 use Rattle.rules.specs.Lists.{length_minus, get_or_minus, sum_minus}
 
 minus_minus : (cs hs : List ℕ) → length hs ≡ length cs → ((k : ℕ) → get_or hs k 0 ≤ get_or cs k 0) → minus cs (minus cs hs) ≡ hs
