@@ -1,5 +1,5 @@
 -- What a rule awards, its dual withholds.
-use Rattle.std.proofs.Common.{◌≡◌, ℕ, ◌-◌, ◌≤◌, min, List, length, get_or, sum, sym, ap, ◌∙◌, subst, ⊎_elim, arith}
+use Rattle.std.proofs.Common.{◌≡◌, ℕ, ◌≤◌, min, List, length, get_or, sum, sym, ap, ◌∙◌, subst, ⊎_elim, arith}
 use Rattle.std.proofs.lemmas.List.{ext_get_or}
 use Rattle.std.proofs.lemmas.Bool.{cases_lt}
 use Rattle.rules.specs.Claims.{Admitted}
@@ -7,7 +7,7 @@ use Rattle.rules.specs.Dual.{shortfall, dual}
 use Rattle.rules.specs.Laws.{Rule, Lawful}
 use Rattle.rules.specs.Places.{minus}
 use Rattle.rules.specs.Theorems.{Divides, Only, DualOf}
-use Rattle.rules.specs.Exchange.{same_by_sum}
+use Rattle.rules.proofs.Exchange.{same_by_sum}
 use Rattle.rules.specs.Lists.{length_minus, get_or_minus, sum_minus}
 
 minus_minus : (cs hs : List ℕ) → length hs ≡ length cs → ((k : ℕ) → get_or hs k 0 ≤ get_or cs k 0) → minus cs (minus cs hs) ≡ hs

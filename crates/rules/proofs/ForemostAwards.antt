@@ -6,7 +6,7 @@ use Rattle.std.proofs.lemmas.Bool.{cases_eq, cases_lt}
 use Rattle.rules.specs.Standards.{Score, Scoring}
 use Rattle.rules.specs.Theorems.{Only, NeverRises, last_score, Foremost}
 use Rattle.rules.specs.Unit.{Below, NotAbove, next_score, raised, dealt, unit_rule}
-use Rattle.rules.specs.Exchange.{same_unless}
+use Rattle.rules.proofs.Exchange.{same_unless}
 use Rattle.rules.specs.Fractions.{below_trans, not_above_trans}
 use Rattle.rules.specs.Lists.{get_or_zeros}
 use Rattle.rules.specs.Picks.{FirstOf, in_list}

@@ -1,4 +1,7 @@
 pub mod Acceptance
+pub mod StandardScores
+pub mod Exchange
+pub mod Served
 pub mod OrderlyAwards
 pub mod ForemostAwards
 pub mod UnitSteps

@@ -5,7 +5,7 @@ use Rattle.std.proofs.lemmas.List.Sums.{sum_by_more, sum_by-take-le}
 use Rattle.std.proofs.lemmas.Bool.{cases_lt, cases_eq}
 use Rattle.rules.specs.Priority.{priority_award, priority}
 use Rattle.rules.specs.Theorems.{Only, InOrder}
-use Rattle.rules.specs.Exchange.{same_unless}
+use Rattle.rules.proofs.Exchange.{same_unless}
 use Rattle.rules.specs.Lists.{get_or_each}
 use Rattle.rules.specs.Picks.{in_list}
 use Rattle.rules.specs.PriorityLaws.{priority_within, priority_laws}

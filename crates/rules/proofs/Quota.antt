@@ -8,7 +8,7 @@ use Rattle.rules.specs.Theorems.{Proportionate, LowerQuota}
 use Rattle.rules.specs.Unit.{jefferson}
 use Rattle.rules.specs.Picks.{in_list}
 use Rattle.rules.proofs.StandardAwards.{jefferson_only}
-use Rattle.rules.specs.StandardScores.{jefferson_positive}
+use Rattle.rules.proofs.StandardScores.{jefferson_positive}
 use Rattle.rules.specs.UnitLaws.{unit_laws}
 
 -- an inequality that holds at each place holds of the sums

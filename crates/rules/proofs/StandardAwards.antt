@@ -6,7 +6,7 @@ use Rattle.rules.specs.Standards.{equal_score, jefferson_score}
 use Rattle.rules.specs.Theorems.{Only, Level, Proportionate, Foremost}
 use Rattle.rules.specs.Unit.{equal_awards, jefferson}
 use Rattle.rules.proofs.ForemostAwards.{foremost_only}
-use Rattle.rules.specs.StandardScores.{over_next_never_rises, next_is, last_is, equal_positive, jefferson_positive}
+use Rattle.rules.proofs.StandardScores.{over_next_never_rises, next_is, last_is, equal_positive, jefferson_positive}
 use Rattle.rules.specs.UnitLaws.{unit_laws}
 
 module _ (cs hs : List ℕ) (ok : Admitted cs) (within : (k : ℕ) → get_or hs k 0 ≤ get_or cs k 0) where

@@ -3,7 +3,7 @@ use Rattle.std.proofs.Common.{◌≡◌, ℕ, suc, ◌+◌, ◌<◌, ◌≤◌, 
 use Rattle.rules.specs.Standards.{Scoring}
 use Rattle.rules.specs.Theorems.{UnitByUnit}
 use Rattle.rules.specs.Unit.{First, raised, dealt}
-use Rattle.rules.specs.Exchange.{same_by_sum}
+use Rattle.rules.proofs.Exchange.{same_by_sum}
 use Rattle.rules.specs.Lists.{sum_le}
 use Rattle.rules.specs.Picks.{FirstOf, first_among_all}
 use Rattle.rules.specs.UnitLaws.{next_pick, next_first, length_dealt, dealt_within, sum_dealt}

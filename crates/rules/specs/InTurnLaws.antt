@@ -1,14 +1,11 @@
 -- Parts of the claims that are served in turn, each by a lawful rule, make a lawful rule.
 use Rattle.std.specs.Prelude.{◌≡◌, ℕ, zero, suc, ◌+◌, ◌-◌, ◌<◌, ◌≤◌, min, List, length, sum, slice_index}
-use Rattle.std.proofs.Common.{⊎_elim, sym, ap, ◌∙◌, add-one, arith}
-use Rattle.std.proofs.lemmas.List.{ext_get_or, length-replicate}
-use Rattle.std.proofs.lemmas.List.Sums.{get_or-le-sum_by}
+use Rattle.std.proofs.Common.{⊎_elim, ap, ◌∙◌, add-one, arith}
+use Rattle.std.proofs.lemmas.List.{length-replicate}
 use Rattle.std.proofs.lemmas.Bool.{cases_eq}
 use Rattle.rules.specs.Claims.{Admitted}
 use Rattle.rules.specs.InTurn.{Part, joined, earlier, share, in_turn, Splits, InTurnLawful}
-use Rattle.rules.specs.Laws.{Rule, Lawful}
 use Rattle.rules.specs.Places.{plus}
-use Rattle.rules.specs.Exchange.{same_by_sum}
 use Rattle.rules.specs.Lists.{length_plus, get_or_plus, sum_plus, sum_zeros}
 
 module _ (p : ℕ → Part) (cs : List ℕ) where
@@ -110,15 +107,3 @@ in_turn_laws p n s = record {
   within = λ e cs ok k. omega (arith, in_turn_within p n s cs ok n e k (omega arith), joined_within p n s cs ok n k (omega arith));
   grows = λ e more cs ok le k. in_turn_grows p n s cs ok n e more k (omega arith) le;
 }
-
--- a part that is served in full brings everyone its claim
-pub served_in_full : (f : Rule) → Lawful f → (part : List ℕ) → Admitted part → f (sum part) part ≡ part
-served_in_full f laws part ok = same_by_sum (f (sum part) part) part (laws.count (sum part) part ok) (laws.within (sum part) part ok) (omega (arith, laws.total (sum part) part ok))
-
--- a part that is served nothing brings nobody a unit
-pub nothing_served : (f : Rule) → Lawful f → (part awards : List ℕ) → Admitted part → length awards ≡ length part → awards ≡ plus awards (f 0 part)
-nothing_served f laws part awards ok same =
-    let count = laws.count 0 part ok in
-    let total = laws.total 0 part ok in
-    ext_get_or 0 awards (plus awards (f 0 part)) (sym (length_plus awards (f 0 part) (omega arith)))
-    (λ k lt. omega (arith, get_or_plus awards (f 0 part) k, get_or-le-sum_by (λ x. x) (f 0 part) k 0 (omega arith)))

@@ -8,8 +8,9 @@ ghost use Rattle.rules.specs.ChoiceLaws.{choice_laws};
 ghost use Rattle.rules.specs.ClassLaws.{class_laws};
 ghost use Rattle.rules.specs.DualLaws.{dual_laws};
 ghost use Rattle.rules.specs.PriorityLaws.{priority_laws};
-ghost use Rattle.rules.specs.StandardScores.{equal_positive, jefferson_positive};
 ghost use Rattle.rules.specs.UnitLaws.{unit_laws};
+ghost use Rattle.rules.specs.contracts.equal_awards.EqualAwardsStandard.TheImpl.Laws as EqualAwardsLaws;
+ghost use Rattle.rules.specs.contracts.jefferson.JeffersonStandard.TheImpl.Laws as JeffersonLaws;
 
 use crate::choice::Choice;
 use crate::class_table::ClassTable;
@@ -68,13 +69,14 @@ impl Rulebook for RingRulebook {
     ghost awarded = { λ s. ring_rule (ring_classes s) };
 
     ghost lawful = { λ s.
-        let equal = unit_laws equal_score equal_positive in
+        let equal = unit_laws equal_score (EqualAwardsLaws.measured-law record {}).positive in
+        let by_claim = unit_laws jefferson_score (JeffersonLaws.measured-law record {}).positive in
         let table = s.houses.second.second.second.second.table in
         choice_laws _ _ (λ _. priority_laws)
         (choice_laws _ _ (λ _. equal)
-        (choice_laws _ _ (λ _. unit_laws jefferson_score jefferson_positive)
+        (choice_laws _ _ (λ _. by_claim)
         (choice_laws _ _ (λ _. dual_laws equal_awards equal)
-        (λ _. class_laws table.classes Unit.jefferson table.low (unit_laws jefferson_score jefferson_positive))))) };
+        (λ _. class_laws table.classes Unit.jefferson table.low by_claim)))) };
 
     fn awards(
         &self,

@@ -1,7 +1,7 @@
 use Rattle.std.proofs.Common.{◌≡◌, ℕ, min, List, sum, sym, ap, ◌∙◌, arith, rules}
 use Rattle.rules.specs.Places.{plus}
 use Rattle.rules.proofs.Acceptance.{filled}
-use Rattle.rules.specs.InTurnLaws.{nothing_served, served_in_full}
+use Rattle.rules.proofs.Served.{nothing_served, served_in_full}
 use Rattle.rules.proofs.in_turn.serve.Goals as goal
 use Rattle.rules.proofs.in_turn.serve.Goals.{then-share-total, else-share-total+then-share-gt0, else-share-total+else-share-gt0}
 

@@ -9,7 +9,7 @@ use Rattle.rules.proofs.DualAwards.{dual_only}
 use Rattle.rules.proofs.OrderlyAwards.{priority_only}
 use Rattle.rules.proofs.Quota.{jefferson_quota}
 use Rattle.rules.proofs.StandardAwards.{equal_only, jefferson_only}
-use Rattle.rules.specs.StandardScores.{equal_positive, jefferson_positive}
+use Rattle.rules.proofs.StandardScores.{equal_positive, jefferson_positive}
 use Rattle.rules.specs.UnitLaws.{unit_laws}
 use Rattle.rules.proofs.ring.ring_rulebook.Goals as goal
 

@@ -1,4 +1,4 @@
-use Rattle.rules.specs.StandardScores.{over_next_never_rises}
+use Rattle.rules.proofs.StandardScores.{over_next_never_rises}
 use Rattle.rules.proofs.equal_awards.EqualAwardsStandard.never_rises.Goals as goal
 
 pub returns : goal.returns

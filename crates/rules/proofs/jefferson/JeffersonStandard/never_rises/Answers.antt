@@ -1,4 +1,4 @@
-use Rattle.rules.specs.StandardScores.{over_next_never_rises}
+use Rattle.rules.proofs.StandardScores.{over_next_never_rises}
 use Rattle.rules.proofs.jefferson.JeffersonStandard.never_rises.Goals as goal
 
 pub returns : goal.returns
