@@ -176,7 +176,7 @@ mod tests {
     #[test]
     fn records(rt: HostRuntime) -> Result<(), Fail> {
         match record_at(&FILE, 47)? {
-            Record::Claim(body) => assert!(rt; body == &[1, 2, 0, 0, 0, 5]),
+            Record::Claim(body) => assert!(rt; body == [1, 2, 0, 0, 0, 5].as_slice()),
             _ => return Err(Fail::new("another kind")),
         }
         assert_eq!(rt; rest_after(&FILE, 47)?.len(), 9);

@@ -11,7 +11,7 @@ use std::{env, fmt};
 // Says why an input is not turned, and ends the program with status 1.
 fn refuse<D: fmt::Display + Drop>(rt: &HostRuntime, why: D) -> anyhow::Result<()> {
     rt.println(why)?;
-    Err(anyhow!("the input is refused"))
+    Err(anyhow!("{:?}", "the input is refused"))
 }
 
 fn refuse_file(rt: &HostRuntime, fault: Fault) -> anyhow::Result<()> {
@@ -21,7 +21,7 @@ fn refuse_file(rt: &HostRuntime, fault: Fault) -> anyhow::Result<()> {
     let debtor = fault.debtor;
     let creditor = fault.creditor;
     println!(rt; "fault {number} {layer} {byte} {debtor} {creditor}")?;
-    Err(anyhow!("the input is refused"))
+    Err(anyhow!("{:?}", "the input is refused"))
 }
 
 // From the text on standard input to the file.
@@ -68,12 +68,12 @@ fn run(rt: &HostRuntime) -> anyhow::Result<()> {
     let mut args = env::args(rt)?;
     let _program = args.next();
     let Some(way) = args.next() else {
-        return Err(anyhow!("say which is wanted: file or text"));
+        return Err(anyhow!("{:?}", "say which is wanted: file or text"));
     };
     match way.as_str() {
         "file" => write_file(rt),
         "text" => write_text(rt),
-        _ => Err(anyhow!("say which is wanted: file or text")),
+        _ => Err(anyhow!("{:?}", "say which is wanted: file or text")),
     }
 }
 

@@ -4,4 +4,4 @@ use Rattle.nettext.specs.Networks.{claim_lines}
 use Rattle.nettext.proofs.writing.push_claims.Goals as goal
 
 pub loop-debtor-preserved : goal.loop-debtor-preserved
-loop-debtor-preserved c = grown _ _ _ (claim_lines c.args.figures.now) c.loop-debtor.debtor _ c.loop-debtor.invariant c.in-ok-push-row.ensures refl
+loop-debtor-preserved c = grown _ _ _ (claim_lines c.args.figures.now) c.loop-debtor.debtor _ c.loop-debtor.invariant c.in_ok-push_row.ensures refl
