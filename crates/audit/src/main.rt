@@ -12,9 +12,9 @@ use report::{Line, TaskLine, sheet_lines};
 use rules::ring_rulebook;
 use std::{env, fs, io};
 
-// A word of the command line, or what is missing.
+// A word of the command line, or what is missing. (What ends the program is printed in quotation marks.)
 fn next_argument(args: &mut env::Args, missing: &str) -> anyhow::Result<String> {
-    args.next().ok_or(missing.into())
+    args.next().ok_or(anyhow!("{missing:?}"))
 }
 
 // The tasks of an order, read from a file.
@@ -24,7 +24,7 @@ fn read_order(rt: &HostRuntime, path: &str) -> anyhow::Result<Vec<Task>> {
         Ok(tasks) => Ok(tasks),
         Err(error) => {
             println!(rt; "{path}: {error}")?;
-            Err(anyhow!("an order is not read"))
+            Err(anyhow!("{:?}", "an order is not read"))
         }
     }
 }
@@ -96,7 +96,7 @@ fn run(rt: &HostRuntime) -> anyhow::Result<()> {
 fn refuse(rt: &HostRuntime, fault: Fault) -> anyhow::Result<()> {
     let line = Line::Fault(fault);
     println!(rt; "{line}")?;
-    Err(anyhow!("the network is refused"))
+    Err(anyhow!("{:?}", "the network is refused"))
 }
 
 fn main(rt: HostRuntime) -> anyhow::Result<()> {

@@ -15,6 +15,6 @@ fn main(rt: HostRuntime) -> anyhow::Result<()> {
     if report.cleared {
         Ok(())
     } else {
-        Err(anyhow!("the network is refused"))
+        Err(anyhow!("{:?}", "the network is refused"))
     }
 }

@@ -97,6 +97,6 @@ fn main(rt: HostRuntime) -> anyhow::Result<()> {
     if random_cases(&rt)? && agree {
         Ok(())
     } else {
-        Err(anyhow!("the engine and the second implementation differ"))
+        Err(anyhow!("{:?}", "the engine and the second implementation differ"))
     }
 }

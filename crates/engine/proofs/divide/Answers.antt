@@ -18,8 +18,8 @@ divided figures rules is houses house estate claims before after (Err e) given =
 
 pub returns : goal.returns
 returns c =
-    let rulebook = c.ring-rulebook-rulebook.result in
-    let houses = subst (λ (F : Figures). RingRules (ring_rule (ring_classes rulebook)) (classes_of F)) c.figures.ensures c.ring-rulebook-rulebook.ensures.rules in
-    divided c.load.new.draft.figures (ring_rule (ring_classes rulebook)) c.in-ok-load.ensures.loaded.1 houses
+    let rulebook = c.ring_rulebook-rulebook.result in
+    let houses = subst (λ (F : Figures). RingRules (ring_rule (ring_classes rulebook)) (classes_of F)) c.figures.ensures c.ring_rulebook-rulebook.ensures.rules in
+    divided c.load.new.draft.figures (ring_rule (ring_classes rulebook)) c.in_ok-load.ensures.loaded.1 houses
     c.args.house c.args.estate c.args.claims.now c.args.awards.now c.awards.new.awards
     c.awards.result c.awards.ensures
