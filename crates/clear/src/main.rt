@@ -1,11 +1,11 @@
 // clear: reads a network file from standard input and prints its settlement sheet, or why it is refused.
 #![tactic(auto)]
 
-use anyhow::anyhow;
 use report::{LONGEST_INPUT, clear};
 use std::io::Read;
+use std::process::ExitCode;
 
-fn main(rt: HostRuntime) -> anyhow::Result<()> {
+fn main(rt: HostRuntime) -> anyhow::Result<ExitCode> {
     let mut input = Vec::new(rt.alloc());
     // one byte more than is allowed tells that the input is too long
     let limit = LONGEST_INPUT as u64 + 1;
@@ -13,8 +13,8 @@ fn main(rt: HostRuntime) -> anyhow::Result<()> {
     let report = clear(rt.alloc(), input.as_slice())?;
     rt.print(report.text)?;
     if report.cleared {
-        Ok(())
+        Ok(ExitCode::SUCCESS)
     } else {
-        Err(anyhow!("{:?}", "the network is refused"))
+        Ok(ExitCode::FAILURE)
     }
 }

@@ -27,7 +27,7 @@ use crate::lives::compare_lives;
 use crate::rulebooks::compare_changing;
 use crate::settled::compare_settled;
 use crate::tally::Tally;
-use anyhow::anyhow;
+use std::process::ExitCode;
 
 // The hand-picked cases and the settled examples.
 fn examples(rt: &HostRuntime) -> anyhow::Result<bool> {
@@ -91,12 +91,12 @@ fn random_cases(rt: &HostRuntime) -> anyhow::Result<bool> {
     Ok(changing_rulebooks(rt, &mut dice)? && agree)
 }
 
-fn main(rt: HostRuntime) -> anyhow::Result<()> {
+fn main(rt: HostRuntime) -> anyhow::Result<ExitCode> {
     let agree = examples(&rt)?;
     let agree = at_limits(&rt)? && agree;
     if random_cases(&rt)? && agree {
-        Ok(())
+        Ok(ExitCode::SUCCESS)
     } else {
-        Err(anyhow!("{:?}", "the engine and the second implementation differ"))
+        Ok(ExitCode::FAILURE)
     }
 }

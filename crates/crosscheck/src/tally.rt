@@ -92,7 +92,7 @@ impl Tally {
             self.print_refusals(rt, faults)?;
         }
         if self.lost {
-            return Err(anyhow!("{:?}", "a case was lost for want of memory"));
+            return Err(anyhow!("a case was lost for want of memory"));
         }
         Ok(differ == 0)
     }
