@@ -1,5 +1,5 @@
 -- The unit rule: one unit at a time, each to the highest score.
-use Rattle.std.specs.Prelude.{ℕ, zero, suc, ◌+◌, ◌*◌, ◌<◌, ◌≤◌, min, Bool, cond, List, length, replicate, Some, None, sum, Option, nat_lt, slice_index, slice_index_or, slice_set}
+use Rattle.std.specs.Prelude.{ℕ, zero, suc, ◌+◌, ◌*◌, ◌<◌, ◌≤◌, min, Bool, cond, List, length, replicate, Some, None, sum, Option, nat_lt, slice_index, slice_set}
 use Rattle.rules.specs.Laws.{Rule}
 use Rattle.rules.specs.Standards.{Score, Scoring, equal_score, jefferson_score}
 
@@ -22,7 +22,7 @@ next_score f cs hs j = f j (slice_index cs j) (slice_index hs j)
 -- higher, nor as high with a lower number
 pub record First (f : Scoring) (cs hs : List ℕ) (j : ℕ) : Type 0 where
   pub listed : j < length cs
-  pub short : slice_index_or hs j 0 < slice_index cs j
+  pub short : slice_index hs j < slice_index cs j
   pub highest : (k : ℕ) → slice_index hs k < slice_index cs k → NotAbove (next_score f cs hs k) (next_score f cs hs j)
   pub earliest : (k : ℕ) → k < j → slice_index hs k < slice_index cs k → Below (next_score f cs hs k) (next_score f cs hs j)
 

@@ -1,8 +1,6 @@
 // The ring's rulebook: which rule each house has.
 ghost use Rattle.rules.specs.Classes.{classes_of};
 ghost use Rattle.rules.specs.Ring.{ring_rule, ring_classes, RingRules, RingApart};
-ghost use Rattle.rules.specs.Unit.{equal_awards};
-ghost use Rattle.rules.specs.Unit;
 ghost use Rattle.rules.specs.Standards.{equal_score, jefferson_score};
 ghost use Rattle.rules.specs.ChoiceLaws.{choice_laws};
 ghost use Rattle.rules.specs.ClassLaws.{class_laws};
@@ -75,8 +73,8 @@ impl Rulebook for RingRulebook {
         choice_laws _ _ (λ _. priority_laws)
         (choice_laws _ _ (λ _. equal)
         (choice_laws _ _ (λ _. by_claim)
-        (choice_laws _ _ (λ _. dual_laws equal_awards equal)
-        (λ _. class_laws table.classes Unit.jefferson table.low by_claim)))) };
+        (choice_laws _ _ (λ _. dual_laws _ equal)
+        (λ _. class_laws _ _ table.low by_claim)))) };
 
     fn awards(
         &self,
