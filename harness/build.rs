@@ -1,19 +1,18 @@
-//! Links the engine's static library, which `rt staticlib engine` writes, the engine as it was
-//! before, if `harness/before` has built it, and the C code of the Rattle toolchain that they
-//! allocate by.
+//! Links the engine's static library, which `rt lib` writes, the engine as it was before, if
+//! `harness/before` has built it, and the C code of the Rattle toolchain that they allocate by.
 use std::path::{Path, PathBuf};
 use std::process::Command;
 
-/// The folder of the toolchain: two above the guide whose path `rt doc` prints.
+/// The folder of the toolchain: the one with the guide whose path `rt doc` prints.
 fn toolchain() -> PathBuf {
     let output = Command::new("rt")
         .arg("doc")
         .output()
         .expect("rt is on the path");
     let guide = String::from_utf8(output.stdout).expect("rt doc prints a path");
-    let folder = Path::new(guide.trim()).ancestors().nth(2);
+    let folder = Path::new(guide.trim()).parent();
     folder
-        .expect("the guide stands in the toolchain's docs folder")
+        .expect("the guide stands in the toolchain's folder")
         .to_path_buf()
 }
 
@@ -26,7 +25,7 @@ fn link(folder: &Path, name: &str) {
 fn main() {
     let harness = Path::new(env!("CARGO_MANIFEST_DIR"));
     let (engine, before) = (
-        harness.join("../target/staticlib"),
+        harness.join("../crates/engine/out"),
         harness.join("target/before"),
     );
     for library in [engine.join("libengine.a"), before.join("libbefore.a")] {
@@ -38,5 +37,5 @@ fn main() {
         println!("cargo::rustc-cfg=before");
         link(&before, "before");
     }
-    link(&toolchain().join("lib"), "rattle_c");
+    link(&toolchain().join("c"), "libc_c");
 }
