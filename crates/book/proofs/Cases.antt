@@ -115,7 +115,7 @@ module _ (A : Meaning) (B : Book) (d c u : ℕ) (a : d < B.figures.n) (b : c < B
             ]
           ]
 
-      pub pay_kept : ((j : ℕ) → j < B.figures.n → payments_of B d j ≤ get_or row j 0) → Capped (net_of B) (cells (set B.paid d new)) × (Solvent (net_of B) (cells (set B.paid d new)) × Unit {0})
+      pub pay_kept : ((j : ℕ) → j < B.figures.n → payments_of B d j ≤ get_or row j 0) → Capped (net_of B) (cells (set B.paid d new)) × Solvent (net_of B) (cells (set B.paid d new))
       pay_kept steady =
           row_kept (net_of B) B.paid d new wide B.capped B.solvent
           (λ j l. elim (cases_eq j c) [ inl q ↦ omega (arith, here j q, ap (λ k. payments_of B d k) q) | inr q ↦ omega (arith, away j q) ])

@@ -1,6 +1,6 @@
 -- Lawful rules make the division of a network lawful.
 use Rattle.std.proofs.Common.{◌≡◌, ℕ, zero, suc, ◌+◌, ◌<◌, min, List, [], ◌∷◌, length, get_or, sum, sym, refl, ap, ◌∙◌, inl, inr, le_trans, le_of_eq, arith, get_or-take}
-use Rattle.std.proofs.lemmas.List.Sums.{sum_by_cons}
+use Rattle.std.proofs.lemmas.List.Sums.{sum_by-cons}
 use Rattle.std.proofs.lemmas.List.{length-take-le, get_or_past}
 use Rattle.std.proofs.lemmas.Bool.{cases_lt}
 use Rattle.network.specs.declared.figures.Figures.{Figures}
@@ -17,7 +17,7 @@ total_front (suc n) f = omega (arith, total_front n f)
 
 sum_total : (xs : List ℕ) → sum xs ≡ total (length xs) (λ k. get_or xs k 0)
 sum_total [] = refl
-sum_total (x ∷ xs) = omega (arith, sum_by_cons (λ (y : ℕ). y) x xs, sum_total xs, total_front (length xs) (λ k. get_or (x ∷ xs) k 0))
+sum_total (x ∷ xs) = omega (arith, sum_by-cons (λ (y : ℕ). y) x xs, sum_total xs, total_front (length xs) (λ k. get_or (x ∷ xs) k 0))
 
 module _ (F : Figures) (i : ℕ) (l : i < F.n) where
   pub claims_length : length (claims_on F i) ≡ F.n

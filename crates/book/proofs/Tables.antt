@@ -111,20 +111,17 @@ module _ (N : Network) (rows : List (List ℕ)) (m : ℕ) (row : List ℕ) (l : 
     | inr e ↦ omega (arith, other i j e)
   ]
 
-  pub row_kept : Capped N (cells (set rows m row)) × (Solvent N (cells (set rows m row)) × Unit {0})
+  pub row_kept : Capped N (cells (set rows m row)) × Solvent N (cells (set rows m row))
   row_kept = (
     λ i j. elim (cases_eq i m) [
       | inl e ↦ omega (arith, own i j e, fits j, ap (λ k. N.claim k j) e)
       | inr e ↦ omega (arith, other i j e, capped i j)
     ],
-    (
-      λ i a.
-          (let n = N.members in
-          let rise = total_le n (λ k. cells rows k i) (λ k. cells (set rows m row) k i) (λ k b. up k i b a) in
-          elim (cases_eq i m) [
-            | inl e ↦ omega (arith, rise, total_eq n (cells (set rows m row) i) (λ j. get_or row j 0) (λ j _. own i j e), spent, ap (λ k. estate N (cells rows) k) e)
-            | inr e ↦ omega (arith, rise, total_eq n (cells (set rows m row) i) (cells rows i) (λ j _. other i j e), solvent i a)
-          ]),
-      tt,
-    ),
+    λ i a.
+        (let n = N.members in
+        let rise = total_le n (λ k. cells rows k i) (λ k. cells (set rows m row) k i) (λ k b. up k i b a) in
+        elim (cases_eq i m) [
+          | inl e ↦ omega (arith, rise, total_eq n (cells (set rows m row) i) (λ j. get_or row j 0) (λ j _. own i j e), spent, ap (λ k. estate N (cells rows) k) e)
+          | inr e ↦ omega (arith, rise, total_eq n (cells (set rows m row) i) (cells rows i) (λ j _. other i j e), solvent i a)
+        ]),
   )

@@ -44,8 +44,8 @@ impl Book {
     // Does rounds until one moves nothing, and answers the sheet. It uses up the book. Whatever calls
     // were made on the book, in whatever order, the sheet's payments are the least clearing matrix.
     pub fn close<R: Rulebook>(mut self, rulebook: &R) -> Sheet
-        ensures ends { Ends (awarded rulebook.now) self result }
-        ensures order { WhateverTheOrder (awarded rulebook.now) self result }
+        ensures ends { Ends (R.awarded rulebook.now) self result }
+        ensures order { WhateverTheOrder (R.awarded rulebook.now) self result }
     {
         let (rounds, units, passed_over) = self.come_to_rest(rulebook);
         let equities = self.equities();

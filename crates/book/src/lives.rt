@@ -21,7 +21,7 @@ fn units_or_fault(res: Result<u32, Fault>) -> Answer
 impl Book {
     // Makes one call.
     pub fn perform<R: Rulebook>(&mut self, rulebook: &R, call: Call) -> Answer
-        ensures { Step (awarded rulebook.now) self.old call result self.new }
+        ensures { Step (R.awarded rulebook.now) self.old call result self.new }
     {
         match call {
             Call::Pay(debtor, creditor, units) => units_or_fault(self.pay(
@@ -41,7 +41,7 @@ impl Book {
 
     // Makes the calls in order, and notes each answer.
     pub fn work<R: Rulebook>(&mut self, rulebook: &R, tasks: &mut [Task])
-        ensures works { Works (awarded rulebook.now) self.old tasks.new self.new }
+        ensures works { Works (R.awarded rulebook.now) self.old tasks.new self.new }
         ensures calls { calls_of tasks.new ≡ calls_of tasks.old }
     {
         for i in 0..tasks.len() {
@@ -63,7 +63,7 @@ pub fn work_both<R: Rulebook>(
     tasks: &mut [Task],
     others: &mut [Task],
 ) -> (Sheet, Sheet)
-    ensures lives { BothLives (awarded rulebook.now) first second tasks.new others.new result.0 result.1 }
+    ensures lives { BothLives (R.awarded rulebook.now) first second tasks.new others.new result.0 result.1 }
     ensures calls { calls_of tasks.new ≡ calls_of tasks.old }
     ensures other_calls { calls_of others.new ≡ calls_of others.old }
 {

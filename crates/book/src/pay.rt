@@ -14,7 +14,7 @@ impl Book {
         creditor: u8,
         units: u32,
     ) -> Result<u32, Fault>
-        ensures { Pays (awarded rulebook.now) self.old debtor creditor units result self.new }
+        ensures { Pays (R.awarded rulebook.now) self.old debtor creditor units result self.new }
     {
         if debtor >= self.figures.n || creditor >= self.figures.n {
             return Err(Fault::of_pair(Layer::Book, Cause::NoSuchMember, debtor, creditor));

@@ -31,7 +31,7 @@ impl Book {
 
     // What the rulebook awards a creditor of a debtor's estate.
     pub fn due<R: Rulebook>(&self, rulebook: &R, debtor: u8, creditor: u8) -> Result<u32, Fault>
-        ensures { ShowsDue (awarded rulebook.now) self.now debtor creditor result }
+        ensures { ShowsDue (R.awarded rulebook.now) self.now debtor creditor result }
     {
         if debtor >= self.figures.n || creditor >= self.figures.n {
             return Err(Fault::of_pair(Layer::Book, Cause::NoSuchMember, debtor, creditor));
@@ -43,7 +43,7 @@ impl Book {
     // Whether a member's settle would pay.
     fn would_pay<R: Rulebook>(&self, rulebook: &R, member: u8) -> bool
         requires { member < self.now.figures.n }
-        ensures { result ≡ would_pay (net_of self.now) (division_of (awarded rulebook.now) self.now) (payments_of self.now) member }
+        ensures { result ≡ would_pay (net_of self.now) (division_of (R.awarded rulebook.now) self.now) (payments_of self.now) member }
     {
         let due = self.due_row(rulebook, member as usize);
         if self.recedes(&due, member as usize) {
@@ -59,7 +59,7 @@ impl Book {
 
     // The lowest-numbered member whose settle would pay, if any.
     pub fn next<R: Rulebook>(&self, rulebook: &R) -> Option<u8>
-        ensures { ShowsNext (awarded rulebook.now) self.now result }
+        ensures { ShowsNext (R.awarded rulebook.now) self.now result }
     {
         for m in 0..self.figures.n {
             if self.would_pay(rulebook, m) {

@@ -11,7 +11,7 @@ impl Book {
     // Settles members 0 to n - 1 in order and passes over those that have receded. Answers the units
     // moved and the members passed over.
     pub fn round<R: Rulebook>(&mut self, rulebook: &R) -> (u32, u8)
-        ensures { GoesRound (awarded rulebook.now) self.old result self.new }
+        ensures { GoesRound (R.awarded rulebook.now) self.old result self.new }
     {
         let mut visits = self.no_visits();
         self.visit_all(rulebook, &mut visits)
@@ -19,9 +19,9 @@ impl Book {
 
     // The same by visits, which leave alone whom no change concerns since its last visit.
     fn visit_all<R: Rulebook>(&mut self, rulebook: &R, visits: &mut Visits) -> (u32, u8)
-        requires { Kept (awarded rulebook.now) self.old visits.old }
-        ensures round { GoesRound (awarded rulebook.now) self.old result self.new }
-        ensures kept { Kept (awarded rulebook.now) self.new visits.new }
+        requires { Kept (R.awarded rulebook.now) self.old visits.old }
+        ensures round { GoesRound (R.awarded rulebook.now) self.old result self.new }
+        ensures kept { Kept (R.awarded rulebook.now) self.new visits.new }
     {
         let mut units = 0;
         let mut passed = 0;
@@ -37,7 +37,7 @@ impl Book {
     // Rounds until one moves nothing. Answers the rounds that moved units, the units moved, and the
     // members that the last round passed over.
     pub(crate) fn come_to_rest<R: Rulebook>(&mut self, rulebook: &R) -> (u32, u32, u8)
-        ensures { Rests (awarded rulebook.now) self.old result.0 result.1 result.2 self.new }
+        ensures { Rests (R.awarded rulebook.now) self.old result.0 result.1 result.2 self.new }
     {
         let mut visits = self.no_visits();
         let mut rounds = 0;

@@ -69,7 +69,7 @@ impl Book {
     ) -> [u32; 32]
         requires member { member < self.now.figures.n }
         requires worth { estate ≡ estate_of self.now member }
-        ensures { DueRow (awarded rulebook.now) self.now member result }
+        ensures { DueRow (R.awarded rulebook.now) self.now member result }
     {
         let mut row = [0u32; 32];
         let n = self.figures.n as usize;
@@ -82,7 +82,7 @@ impl Book {
     // What the rulebook awards each creditor of a member's estate.
     pub(crate) fn due_row<R: Rulebook>(&self, rulebook: &R, member: usize) -> [u32; 32]
         requires { member < self.now.figures.n }
-        ensures { DueRow (awarded rulebook.now) self.now member result }
+        ensures { DueRow (R.awarded rulebook.now) self.now member result }
     {
         self.due_row_of(rulebook, member, self.estate(member))
     }

@@ -12,7 +12,7 @@ use rules::Rulebook;
 impl Book {
     // Makes a member's row its due row, and answers the units moved.
     pub fn settle<R: Rulebook>(&mut self, rulebook: &R, member: u8) -> Result<u32, Fault>
-        ensures { Settles (awarded rulebook.now) self.old member result self.new }
+        ensures { Settles (R.awarded rulebook.now) self.old member result self.new }
     {
         if member >= self.figures.n {
             return Err(Fault::of_member(Layer::Book, Cause::NoSuchMember, member));
@@ -31,7 +31,7 @@ impl Book {
     ) -> Option<u32>
         requires member { member < self.old.figures.n }
         requires worth { estate ≡ estate_of self.old member }
-        ensures { Settles (awarded rulebook.now) self.old member (answer_of member result) self.new }
+        ensures { Settles (R.awarded rulebook.now) self.old member (answer_of member result) self.new }
     {
         let due = self.due_row_of(rulebook, member as usize, estate);
         if self.recedes(&due, member as usize) {

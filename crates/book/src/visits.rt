@@ -62,9 +62,9 @@ impl Book {
         member: u8,
     ) -> Option<u32>
         requires member { member < self.old.figures.n }
-        requires kept { Kept (awarded rulebook.now) self.old visits.old }
-        ensures settles { Settles (awarded rulebook.now) self.old member (answer_of member result) self.new }
-        ensures kept { Kept (awarded rulebook.now) self.new visits.new }
+        requires kept { Kept (R.awarded rulebook.now) self.old visits.old }
+        ensures settles { Settles (R.awarded rulebook.now) self.old member (answer_of member result) self.new }
+        ensures kept { Kept (R.awarded rulebook.now) self.new visits.new }
     {
         let m = member as usize;
         let estate = visits.estates[m];
@@ -87,9 +87,9 @@ impl Book {
         member: u8,
     ) -> Option<u32>
         requires member { member < self.old.figures.n }
-        requires kept { Kept (awarded rulebook.now) self.old visits.old }
-        ensures settles { Settles (awarded rulebook.now) self.old member (answer_of member result) self.new }
-        ensures kept { Kept (awarded rulebook.now) self.new visits.new }
+        requires kept { Kept (R.awarded rulebook.now) self.old visits.old }
+        ensures settles { Settles (R.awarded rulebook.now) self.old member (answer_of member result) self.new }
+        ensures kept { Kept (R.awarded rulebook.now) self.new visits.new }
     {
         let estate = visits.estates[member as usize];
         let last = visits.last[member as usize];

@@ -14,5 +14,5 @@ returns g c =
             c.open-one.ensures c.work.ensures.works c.close.ensures.ends second;
       };
       calls = c.work.ensures.calls;
-      other-calls = c.work-2.ensures.calls;
+      other_calls = c.work-2.ensures.calls;
     }

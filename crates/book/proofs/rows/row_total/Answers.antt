@@ -3,8 +3,8 @@ use Rattle.clearing.specs.Networks.{total}
 use Rattle.clearing.proofs.Totals.{total_more, total_cap}
 use Rattle.book.proofs.rows.row_total.Goals as goal
 
-pub overflow-add-sum : goal.overflow-add-sum
-overflow-add-sum c =
+pub overflow_add-sum : goal.overflow_add-sum
+overflow_add-sum c =
     let j = c.loop-j.j in
     omega (arith, total_cap j (λ j. get_or c.args.row.now j 0) 10000 (λ k _. c.requires.small k), c.requires.small j)
 

@@ -5,38 +5,38 @@ use Rattle.book.proofs.book.Book.come_to_rest.Goals as goal
 pub loop-visits-init : goal.loop-visits-init
 loop-visits-init g c = (
   record { figures = refl; payments = λ i j a b. refl; moving = λ k l. absurd (omega arith); units = omega arith; count = omega arith },
-  c.no-visits-visits.ensures (g.R.Rulebook.awarded c.args.rulebook.now),
+  c.no_visits-visits.ensures (g.R.Rulebook.awarded c.args.rulebook.now),
 )
 
 pub returns-then-moved-eq0 : goal.returns-then-moved-eq0
 returns-then-moved-eq0 g c =
     rounds_rest (g.R.Rulebook.awarded c.args.rulebook.now) c.args.self.now c.loop-visits.rounds c.loop-visits.units
-    c.loop-visits.self c.visit-all-moved.new.self c.visit-all-moved.result c.loop-visits.invariant.0 c.visit-all-moved.ensures.round c.if-moved-eq0.true
+    c.loop-visits.self c.visit_all-moved.new.self c.visit_all-moved.result c.loop-visits.invariant.0 c.visit_all-moved.ensures.round c.if-moved-eq0.true
 
-pub overflow-add-rounds : goal.overflow-add-rounds
-overflow-add-rounds g c =
+pub overflow_add-rounds : goal.overflow_add-rounds
+overflow_add-rounds g c =
     omega (
       arith,
       (rounds_fit (g.R.Rulebook.awarded c.args.rulebook.now) c.args.self.now c.loop-visits.rounds c.loop-visits.units
-          c.loop-visits.self c.visit-all-moved.new.self c.visit-all-moved.result c.loop-visits.invariant.0 c.visit-all-moved.ensures.round c.if-moved-eq0.false).1,
+          c.loop-visits.self c.visit_all-moved.new.self c.visit_all-moved.result c.loop-visits.invariant.0 c.visit_all-moved.ensures.round c.if-moved-eq0.false).1,
     )
 
-pub overflow-add-units : goal.overflow-add-units
-overflow-add-units g c =
+pub overflow_add-units : goal.overflow_add-units
+overflow_add-units g c =
     omega (
       arith,
       (rounds_fit (g.R.Rulebook.awarded c.args.rulebook.now) c.args.self.now c.loop-visits.rounds c.loop-visits.units
-          c.loop-visits.self c.visit-all-moved.new.self c.visit-all-moved.result c.loop-visits.invariant.0 c.visit-all-moved.ensures.round c.if-moved-eq0.false).0,
+          c.loop-visits.self c.visit_all-moved.new.self c.visit_all-moved.result c.loop-visits.invariant.0 c.visit_all-moved.ensures.round c.if-moved-eq0.false).0,
     )
 
 pub loop-visits-smaller : goal.loop-visits-smaller
 loop-visits-smaller g c =
     rounds_less (g.R.Rulebook.awarded c.args.rulebook.now) c.args.self.now c.loop-visits.rounds c.loop-visits.units
-    c.loop-visits.self c.visit-all-moved.new.self c.visit-all-moved.result c.loop-visits.invariant.0 c.visit-all-moved.ensures.round c.if-moved-eq0.false
+    c.loop-visits.self c.visit_all-moved.new.self c.visit_all-moved.result c.loop-visits.invariant.0 c.visit_all-moved.ensures.round c.if-moved-eq0.false
 
 pub loop-visits-preserved : goal.loop-visits-preserved
 loop-visits-preserved g c = (
   rounds_again (g.R.Rulebook.awarded c.args.rulebook.now) c.args.self.now c.loop-visits.rounds c.loop-visits.units
-      c.loop-visits.self c.visit-all-moved.new.self c.visit-all-moved.result c.loop-visits.invariant.0 c.visit-all-moved.ensures.round c.if-moved-eq0.false,
-  c.visit-all-moved.ensures.kept,
+      c.loop-visits.self c.visit_all-moved.new.self c.visit_all-moved.result c.loop-visits.invariant.0 c.visit_all-moved.ensures.round c.if-moved-eq0.false,
+  c.visit_all-moved.ensures.kept,
 )

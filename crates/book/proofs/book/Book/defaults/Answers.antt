@@ -19,7 +19,7 @@ loop-i-preserved c =
     let xs = c.loop-i.defaults in (
       length-set xs i _ ∙ c.loop-i.invariant.0,
       below_more _ i (λ k h. get_or-set_other xs i k _ false (λ e. omega arith) ∙ c.loop-i.invariant.1 k h)
-          (get_or-set_same xs i _ false (omega (arith, c.args.self.now.figures.few, c.loop-i.invariant.0)) ∙ c.defaults-at.ensures),
+          (get_or-set_same xs i _ false (omega (arith, c.args.self.now.figures.few, c.loop-i.invariant.0)) ∙ c.defaults_at.ensures),
       λ k h. get_or-set_other xs i k _ false (λ e. omega arith) ∙ c.loop-i.invariant.2 k (omega arith),
     )
 

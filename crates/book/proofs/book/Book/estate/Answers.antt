@@ -5,8 +5,8 @@ use Rattle.book.specs.Views.{net_of, payments_of}
 use Rattle.book.proofs.Tables.{entry_cap, estate_cap}
 use Rattle.book.proofs.book.Book.estate.Goals as goal
 
-pub overflow-add-sum : goal.overflow-add-sum
-overflow-add-sum c =
+pub overflow_add-sum : goal.overflow_add-sum
+overflow_add-sum c =
     let B = c.args.self.now in
     let m = c.args.member in
     let k = c.loop-k.k in

@@ -11,18 +11,18 @@ use Rattle.book.proofs.book.Book.next.Goals as goal
 pub loop-m-init : goal.loop-m-init
 loop-m-init g c = refl
 
-pub returns-then-would-pay : goal.returns-then-would-pay
-returns-then-would-pay g c =
+pub returns-then-would_pay : goal.returns-then-would_pay
+returns-then-would_pay g c =
     let B = c.args.self.now in
     let test : ℕ → Bool = would_pay (net_of B) (division_of (g.R.Rulebook.awarded c.args.rulebook.now) B) (payments_of B) in
-    first_found test B.figures.n c.loop-m.m c.loop-m-test.true c.loop-m.invariant (sym c.would_pay.ensures ∙ c.if-would-pay.true)
+    first_found test B.figures.n c.loop-m.m c.loop-m-test.true c.loop-m.invariant (sym c.would_pay.ensures ∙ c.if-would_pay.true)
 
 pub loop-m-preserved : goal.loop-m-preserved
 loop-m-preserved g c =
     let B = c.args.self.now in
     let m = c.loop-m.m in
     let test : ℕ → Bool = would_pay (net_of B) (division_of (g.R.Rulebook.awarded c.args.rulebook.now) B) (payments_of B) in
-    any_more m test ∙ or_from (test m) (any m test) (sym c.would_pay.ensures ∙ c.if-would-pay.false) c.loop-m.invariant
+    any_more m test ∙ or_from (test m) (any m test) (sym c.would_pay.ensures ∙ c.if-would_pay.false) c.loop-m.invariant
 
 pub returns : goal.returns
 returns g c =

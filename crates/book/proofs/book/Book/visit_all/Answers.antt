@@ -7,8 +7,8 @@ use Rattle.book.proofs.book.Book.visit_all.Goals.{in-Some, in-None}
 pub loop-m-init : goal.loop-m-init
 loop-m-init g c = (record { figures = refl; payments = λ i j a b. refl; units = omega arith; passed = refl; few = omega arith }, c.requires)
 
-pub overflow-add-units : goal.overflow-add-units
-overflow-add-units g c =
+pub overflow_add-units : goal.overflow_add-units
+overflow_add-units g c =
     let B = c.args.self.now in
     let on = turn_pays (g.R.Rulebook.awarded c.args.rulebook.now) B.figures (payments_of B) c.loop-m.m c.loop-m.units c.loop-m.passed
     c.loop-m.self c.visit.new.self c.loop-m.invariant.0 c.loop-m-test.true c.in-Some.moved c.in-Some.ensures.settles in
