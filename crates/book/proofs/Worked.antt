@@ -9,7 +9,6 @@ use Rattle.network.specs.declared.figures.Figures.{Figures}
 use Rattle.network.specs.declared.figures.Member.{Member}
 use Rattle.network.specs.Entries.{claim_at}
 use Rattle.network.specs.Faults.{of_member, of_pair}
-use Rattle.rules.specs.Dual.{dual}
 use Rattle.rules.specs.Examples.{Examples as RuleExamples}
 use Rattle.rules.specs.Priority.{priority}
 use Rattle.rules.specs.PriorityLaws.{priority_laws}
