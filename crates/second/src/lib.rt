@@ -29,5 +29,5 @@ pub use network::{Member, Network};
 pub use queue::{Rule, Rules, awards};
 pub use reading::read;
 pub use request::Request;
-pub use statement::{Account, print_sheet};
+pub use statement::{Account, print_sheet, sheet_text};
 pub use text::Text;

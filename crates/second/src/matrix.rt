@@ -27,7 +27,7 @@ impl Matrix {
         }
     }
 
-    pub(crate) fn at(&self, debtor: usize, creditor: usize) -> u32 {
+    pub fn at(&self, debtor: usize, creditor: usize) -> u32 {
         self.row(debtor).at(creditor)
     }
 

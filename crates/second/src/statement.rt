@@ -2,6 +2,7 @@
 use crate::matrix::Matrix;
 use crate::network::Network;
 use crate::text::Text;
+use std::alloc::{AllocError, Global};
 
 // What closing took: rounds that moved units, units moved, and members passed over in the last round.
 #[derive(Clone, Copy)]
@@ -55,4 +56,16 @@ pub fn print_sheet(text: &mut Text, network: &Network, payments: &Matrix, accoun
         "rounds",
         &[account.rounds, account.units, account.passed_over],
     );
+}
+
+// The same as a text of its own.
+pub fn sheet_text(
+    heap: Global,
+    network: &Network,
+    payments: &Matrix,
+    account: Account,
+) -> Result<String, AllocError> {
+    let mut text = Text::new(heap);
+    print_sheet(&mut text, network, payments, account);
+    text.finish()
 }
