@@ -17,12 +17,10 @@ pub fn draft_of(file: &[u8]) -> Option<Draft> {
     Some(draft)
 }
 
-fn push_task(text: &mut String, task: Task) -> Result<(), AllocError> {
+fn push_task(heap: Global, text: &mut String, task: Task) -> Result<(), AllocError> {
     let line = TaskLine(task);
-    if write!(text, "{line}\n").is_err() {
-        return Err(AllocError);
-    }
-    Ok(())
+    let shown = format!(in heap; "{line}\n")?;
+    text.push_str(shown.as_str())
 }
 
 fn sheet_text(heap: Global, sheet: &Sheet) -> Result<String, AllocError> {
@@ -34,7 +32,7 @@ fn sheet_text(heap: Global, sheet: &Sheet) -> Result<String, AllocError> {
 pub fn life_text(heap: Global, tasks: &[Task], sheet: &Sheet) -> Result<String, AllocError> {
     let mut text = String::new(heap);
     for task in tasks {
-        push_task(&mut text, *task)?;
+        push_task(heap, &mut text, *task)?;
     }
     text.push_str(sheet_text(heap, sheet)?.as_str())?;
     Ok(text)

@@ -5,20 +5,20 @@ use std::alloc::{AllocError, Global};
 #[derive(Drop)]
 pub struct Records {
     bytes: Vec<u8>,
-    lost: bool,
+    lost: Option<AllocError>,
 }
 
 impl Records {
     pub fn new(heap: Global) -> Records {
         Records {
             bytes: Vec::new(heap),
-            lost: false,
+            lost: None,
         }
     }
 
     fn push(&mut self, record: &[u8]) {
-        if self.bytes.extend_from_slice(record).is_err() {
-            self.lost = true;
+        if let Err(error) = self.bytes.extend_from_slice(record) {
+            self.lost = Some(error);
         }
     }
 
@@ -39,10 +39,9 @@ impl Records {
     // The whole file, with its end.
     pub fn finish(mut self) -> Result<Vec<u8>, AllocError> {
         self.push(&[4]);
-        if self.lost {
-            Err(AllocError)
-        } else {
-            Ok(self.bytes)
+        match self.lost {
+            Some(error) => Err(error),
+            None => Ok(self.bytes),
         }
     }
 }

@@ -13,7 +13,7 @@ fn random_member(dice: &mut Dice, n: u8) -> u8 {
     }
 }
 
-pub fn random_request(dice: &mut Dice, n: u8) -> Request {
+fn random_request(dice: &mut Dice, n: u8) -> Request {
     let debtor = random_member(dice, n);
     let creditor = random_member(dice, n);
     match dice.between(1, 20) {
@@ -31,7 +31,7 @@ pub fn random_request(dice: &mut Dice, n: u8) -> Request {
 }
 
 // How many requests there are at most.
-pub const MOST: u32 = 40;
+const MOST: u32 = 40;
 
 // Requests in a network of n members.
 pub fn random_requests(heap: Global, dice: &mut Dice, n: u8) -> Result<Vec<Request>, AllocError> {

@@ -1,7 +1,7 @@
 // Random orders of work on books under rulebooks that change from call to call, so that members recede.
 use crate::dice::Dice;
 use crate::engine::{draft_of, life_text};
-use crate::requests::{MOST, call_of, random_request};
+use crate::requests::{call_of, random_requests};
 use crate::shapes::{Scale, random_network};
 use crate::tally::Tally;
 use book::{Answer, Book, Call, Task};
@@ -68,9 +68,9 @@ struct Step {
 // Steps in a network of n members.
 fn random_steps(heap: Global, dice: &mut Dice, n: u8) -> Result<Vec<Step>, AllocError> {
     let mut steps = Vec::new(heap);
-    for _step in 0..dice.between(0, MOST) {
+    for request in &random_requests(heap, dice, n)? {
         steps.push(Step {
-            request: random_request(dice, n),
+            request: *request,
             rules: random_rules(dice),
         })?;
     }

@@ -15,18 +15,17 @@ pub struct Tally {
     lost: bool,
 }
 
-fn push_hexadecimal(text: &mut String, bytes: &[u8]) -> Result<(), AllocError> {
+fn hexadecimal(heap: Global, bytes: &[u8]) -> Result<String, AllocError> {
+    let mut text = String::new(heap);
     for byte in bytes {
-        if write!(text, "{byte:02x}").is_err() {
-            return Err(AllocError);
-        }
+        let digits = format!(in heap; "{byte:02x}")?;
+        text.push_str(digits.as_str())?;
     }
-    Ok(())
+    Ok(text)
 }
 
 fn difference(heap: Global, input: &[u8], engine: &str, other: &str) -> Result<String, AllocError> {
-    let mut digits = String::new(heap);
-    push_hexadecimal(&mut digits, input)?;
+    let digits = hexadecimal(heap, input)?;
     format!(in heap; "{digits}\nengine:\n{engine}\nother:\n{other}\n")
 }
 

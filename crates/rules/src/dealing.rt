@@ -3,13 +3,13 @@
 ghost use Rattle.std.specs.Prelude.{◌≡◌, ℕ, ◌<◌, ◌≤◌, length, IfSome, slice_index};
 ghost use Rattle.rules.specs.Claims.{Admitted};
 ghost use Rattle.rules.specs.Kept.{FirstShort, Heads, NextHigher, Small, Underway, head, kept};
-ghost use Rattle.rules.specs.Unit.{above, dealt, picked};
+ghost use Rattle.rules.specs.Unit.{First, above, dealt, picked};
 
 use crate::standard::Standard;
 
 // Whether p is the higher fraction.
 pub(crate) fn higher(p: (u32, u32), q: (u32, u32)) -> bool
-    requires { Small p × Small q }
+    requires { (p.0 ≤ 65535) × (p.1 ≤ 65535) × (q.0 ≤ 65535) × (q.1 ≤ 65535) }
     ensures { result ≡ above p q }
 {
     p.0 * q.1 > q.0 * p.1
@@ -68,6 +68,7 @@ fn pick(heads: &[(u32, u32)], claims: &[u32], held: &[u32]) -> Option<usize>
     requires scores { length heads.now ≡ length claims.now }
     requires same { length held.now ≡ length claims.now }
     ensures value { result ≡ picked (kept heads.now) claims.now held.now (length claims.now) }
+    ensures first { IfSome result (First (kept heads.now) claims.now held.now) }
     ensures short { IfSome result (λ j. (j < length claims.now) × (slice_index held.now j < slice_index claims.now j)) }
 {
     let Some(first) = first_short(claims, held) else {

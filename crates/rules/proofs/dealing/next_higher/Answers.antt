@@ -3,7 +3,10 @@ use Rattle.std.proofs.lemmas.Bool.{cases_eq}
 use Rattle.rules.proofs.dealing.next_higher.Goals as goal
 
 pub higher-requires : goal.higher-requires
-higher-requires c = (c.requires.small c.loop-k.k c.loop-k-test.true, c.requires.small c.args.best c.requires.listed)
+higher-requires c =
+    let p = c.requires.small c.loop-k.k c.loop-k-test.true in
+    let q = c.requires.small c.args.best c.requires.listed in
+    (p.numerator, p.denominator, q.numerator, q.denominator)
 
 pub loop-k-preserved : goal.loop-k-preserved
 loop-k-preserved c =
