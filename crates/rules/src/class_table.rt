@@ -18,11 +18,9 @@ impl ClassTable {
         ensures entries { result.classes ≡ classes_of figures.now }
         ensures past { (k : ℕ) → figures.now.n ≤ k → slice_index result.classes k ≡ 0 }
     {
-        let mut classes = [0; 32];
-        for (k, member) in figures.members.iter().enumerate() {
-            classes[k] = member.class;
+        ClassTable {
+            classes: figures.members.map(|member| member.class),
         }
-        ClassTable { classes }
     }
 
     // The claims of one class, all others taken as 0.
@@ -31,8 +29,13 @@ impl ClassTable {
         requires same { length part.old ≡ length claims.now }
         ensures { part.new ≡ of_class self.now.classes class claims.now }
     {
-        for (k, claim) in claims.iter().enumerate() {
-            part[k] = if self.classes[k] == class { *claim } else { 0 };
+        // Numbered and not zipped: of what an adapter of `iter_mut` lends, a proof knows only the length.
+        for (k, units) in part.iter_mut().enumerate() {
+            *units = if self.classes[k] == class {
+                claims[k]
+            } else {
+                0
+            };
         }
     }
 }

@@ -33,8 +33,9 @@ fn take_from(claims: &[u32], awards: &mut [u32])
     requires within { (k : ℕ) → slice_index awards.old k ≤ slice_index claims.now k }
     ensures { awards.new ≡ minus claims.now awards.old }
 {
-    for (k, claim) in claims.iter().enumerate() {
-        awards[k] = *claim - awards[k];
+    // Numbered and not zipped: of what an adapter of `iter_mut` lends, a proof knows only the length.
+    for (k, award) in awards.iter_mut().enumerate() {
+        *award = claims[k] - *award;
     }
 }
 

@@ -12,8 +12,9 @@ fn add_to(awards: &mut [u32], more: &[u32])
     requires fits { (k : ℕ) → slice_index awards.old k + slice_index more.now k ≤ 10000 }
     ensures { awards.new ≡ plus awards.old more.now }
 {
-    for (k, units) in more.iter().enumerate() {
-        awards[k] += *units;
+    // Numbered and not zipped: of what an adapter of `iter_mut` lends, a proof knows only the length.
+    for (k, award) in awards.iter_mut().enumerate() {
+        *award += more[k];
     }
 }
 

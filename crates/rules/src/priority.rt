@@ -15,10 +15,10 @@ fn pay_in_order(estate: u32, claims: &[u32], awards: &mut [u32])
     ensures { awards.new ≡ priority estate claims.now }
 {
     let mut left = estate;
-    for (k, claim) in claims.iter().enumerate() {
-        let award = left.min(*claim);
-        awards[k] = award;
-        left -= award;
+    // Numbered and not zipped: of what an adapter of `iter_mut` lends, a proof knows only the length.
+    for (k, award) in awards.iter_mut().enumerate() {
+        *award = left.min(claims[k]);
+        left -= *award;
     }
 }
 

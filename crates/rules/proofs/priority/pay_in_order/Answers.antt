@@ -8,7 +8,7 @@ use Rattle.rules.proofs.priority.pay_in_order.Goals as goal
 pub loop-k-preserved : goal.loop-k-preserved
 loop-k-preserved c =
     let claim = sum_by_more (λ x. x) c.args.claims.now c.loop-k.k 0 (omega arith) in
-    let award : c.min-award.result ≡ priority_award c.args.estate c.args.claims.now c.loop-k.k = omega arith in (
+    let award : c.min.result ≡ priority_award c.args.estate c.args.claims.now c.loop-k.k = omega arith in (
       omega arith,
       rw award (fill_by_more (priority_award c.args.estate c.args.claims.now) c.loop-k.awards c.loop-k.k 0 (omega arith) c.loop-k.invariant.1),
     )

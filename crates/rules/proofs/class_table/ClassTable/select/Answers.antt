@@ -9,10 +9,10 @@ use Rattle.rules.proofs.class_table.ClassTable.select.Goals.{then-self-k, else-s
 pub loop-k-preserved : goal.loop-k-preserved
 loop-k-preserved c =
     let claim = class_claim c.args.self.now.classes c.args.class c.args.claims.now in
-    let is : c.if-self-k.part ≡ claim c.loop-k.k =
+    let is : c.if-self-k.units ≡ claim c.loop-k.k =
     elim c.if-self-k.branch [
-      | then-self-k w ↦ let value = w.part-is in let test = w.if-self-k.true in grind (arith, nat_tests)
-      | else-self-k w ↦ let value = w.part-is in let test = w.if-self-k.false in grind (arith, nat_tests)
+      | then-self-k w ↦ let value = w.units-is in let test = w.if-self-k.true in grind (arith, nat_tests)
+      | else-self-k w ↦ let value = w.units-is in let test = w.if-self-k.false in grind (arith, nat_tests)
     ] in
     rw is (fill_by_more claim c.loop-k.part c.loop-k.k 0 (omega arith) c.loop-k.invariant)
 
