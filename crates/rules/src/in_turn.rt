@@ -17,17 +17,15 @@ fn add_to(awards: &mut [u32], more: &[u32])
     }
 }
 
-// Serves one part from what is left of the estate, and answers what is then left. The buffer takes what
-// the part brings each creditor, which is added to the awards.
+// Serves one part from what is left of the estate, adding to the awards what it brings each creditor, and
+// answers what is then left.
 pub(crate) fn serve<R: Rulebook>(
     rulebook: &R,
     house: u8,
     left: u32,
     part: &ClaimList,
-    buffer: &mut [u32],
     awards: &mut [u32],
 ) -> u32
-    requires room { length buffer.old ≡ length part.now }
     requires same { length awards.old ≡ length part.now }
     requires fits { (k : ℕ) → slice_index awards.old k + slice_index part.now k ≤ 10000 }
     ensures rest { result ≡ left - sum part.now }
@@ -39,9 +37,11 @@ pub(crate) fn serve<R: Rulebook>(
     if share == total {
         add_to(awards, part.list);
     } else if share > 0 {
+        let mut room = [0; 32];
+        let brought = &mut room[..part.list.len()];
         // an admitted part is not refused
-        let _ = rulebook.awards(house, share, part.list, buffer);
-        add_to(awards, buffer);
+        let _ = rulebook.awards(house, share, part.list, brought);
+        add_to(awards, brought);
     }
     left - share
 }

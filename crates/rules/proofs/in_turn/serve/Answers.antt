@@ -1,9 +1,15 @@
-use Rattle.std.proofs.Common.{◌≡◌, ℕ, min, List, length, get_or, sum, sym, ap, ◌∙◌, arith, rules}
+use Rattle.std.proofs.Common.{◌≡◌, ℕ, min, List, length, get_or, take, replicate, sum, sym, ap, ◌∙◌, arith, rules}
+use Rattle.std.proofs.lemmas.List.{length-take, length-replicate}
+use Rattle.rules.specs.Claims.{Admitted}
 use Rattle.rules.specs.Places.{plus}
 use Rattle.rules.proofs.Acceptance.{filled}
 use Rattle.rules.proofs.Served.{nothing_served, served_in_full}
 use Rattle.rules.proofs.in_turn.serve.Goals as goal
 use Rattle.rules.proofs.in_turn.serve.Goals.{then-share-total, else-share-total+then-share-gt0, else-share-total+else-share-gt0}
+
+-- the first of 32 places, one for each claim
+room : (cs : List ℕ) → Admitted cs → length (take (length cs) (replicate {A = ℕ} 32 0)) ≡ length cs
+room cs ok = omega (arith, ok.few, length-take (length cs) (replicate {A = ℕ} 32 0), length-replicate {A = ℕ} 32 0)
 
 pub add_to-requires-then-share-gt0 : goal.add_to-requires-then-share-gt0
 add_to-requires-then-share-gt0 g c =
@@ -11,9 +17,9 @@ add_to-requires-then-share-gt0 g c =
     let laws = g.met.R.Rulebook.lawful c.args.rulebook.now c.args.house in
     let cs : List ℕ = c.part.inside.list.now in
     let given : cs ≡ c.args.part.now = c.part.view_is in
-    let room = ap length given in
+    let long = ap length given in
     let e : ℕ = c.min-share.result in
-    let is : c.awards.new.awards ≡ f e cs = filled cs _ c.awards.result _ _ _ c.part.invariant (omega arith) c.awards.ensures in
+    let is : c.awards.new.awards ≡ f e cs = filled cs _ c.awards.result _ _ _ c.part.invariant (room cs c.part.invariant) c.awards.ensures in
     record {
       same = rw is (omega (arith, laws.count e cs c.part.invariant));
       fits = λ k. rw is (omega (arith, laws.within e cs c.part.invariant k, c.requires.fits k, ap (λ xs. get_or xs k 0) given));
@@ -25,7 +31,7 @@ returns g c =
     let laws = g.met.R.Rulebook.lawful c.args.rulebook.now c.args.house in
     let cs : List ℕ = c.part.inside.list.now in
     let given : cs ≡ c.args.part.now = c.part.view_is in
-    let room = ap length given in
+    let long = ap length given in
     let ok = c.part.invariant in
     let e : ℕ = c.min-share.result in
     let now : List ℕ = c.args.awards.now in
@@ -37,7 +43,7 @@ returns g c =
           let all : e ≡ sum cs = w.if-share-total.true ∙ total in
           w.awards-is ∙ w.add_to.ensures ∙ ap (plus now) (sym (ap (λ x. f x cs) all ∙ served_in_full f laws cs ok))
       | else-share-total+then-share-gt0 w ↦
-          w.awards-is ∙ w.add_to-then-share-gt0.ensures ∙ ap (plus now) (filled cs _ w.awards.result _ _ _ ok (omega arith) w.awards.ensures)
+          w.awards-is ∙ w.add_to-then-share-gt0.ensures ∙ ap (plus now) (filled cs _ w.awards.result _ _ _ ok (room cs ok) w.awards.ensures)
       | else-share-total+else-share-gt0 w ↦
           let none : e ≡ 0 = omega (arith, w.if-share-gt0.false) in
           w.awards-is ∙ nothing_served f laws cs now ok (omega arith) ∙ sym (ap (λ x. plus now (f x cs)) none)
