@@ -34,13 +34,12 @@ impl ClassTable {
         requires { length room.now ≡ length claims.now }
         ensures { result ≡ of_class self.now.classes class claims.now }
     {
+        room.copy_from_slice(claims.list);
         // Numbered and not zipped: of what an adapter of `iter_mut` lends, a proof knows only the length.
-        for (k, units) in room.iter_mut().enumerate() {
-            *units = if self.classes[k] == class {
-                claims.list[k]
-            } else {
-                0
-            };
+        for (k, claim) in room.iter_mut().enumerate() {
+            if self.classes[k] != class {
+                *claim = 0;
+            }
         }
         ClaimList { list: room }
     }
