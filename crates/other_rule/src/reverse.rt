@@ -23,8 +23,8 @@ fn pay_from_last(estate: u32, claims: &[u32], awards: &mut [u32])
     ensures { awards.new ≡ reverse_priority estate claims.now }
 {
     let mut left = estate;
-    for k in (0..claims.len()).rev() {
-        let award = left.min(claims[k]);
+    for (k, claim) in claims.iter().enumerate().rev() {
+        let award = left.min(*claim);
         awards[k] = award;
         left -= award;
     }
