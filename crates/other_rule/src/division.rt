@@ -4,7 +4,8 @@ use rules::Rulebook;
 use std::process::Abort;
 use std::test::Fail;
 
-// A house, an estate, the claims of three creditors, and what each of them is awarded.
+// A house, an estate, the claims of three creditors, and what each of them is awarded. A tuple without names,
+// so that a test's divisions stand one to a line.
 pub(crate) type Division = (u8, u32, [u32; 3], [u32; 3]);
 
 pub(crate) fn check_divisions<R: Rulebook>(
@@ -23,13 +24,13 @@ pub(crate) fn check_divisions<R: Rulebook>(
 // The draft of a network of three members of these classes.
 pub(crate) fn draft_of(classes: [u8; 3]) -> Result<Draft, Fault> {
     let mut draft = Draft::new(MemberCount::new(3)?);
-    let of_class = |class| Member {
-        house: 0,
-        class,
-        endowment: 0,
-    };
-    draft.enter_member(0, of_class(classes[0]))?;
-    draft.enter_member(1, of_class(classes[1]))?;
-    draft.enter_member(2, of_class(classes[2]))?;
+    for (member, class) in (0..3).zip(classes) {
+        let entry = Member {
+            house: 0,
+            class,
+            endowment: 0,
+        };
+        draft.enter_member(member, entry)?;
+    }
     Ok(draft)
 }

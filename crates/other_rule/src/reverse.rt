@@ -18,13 +18,14 @@ impl ReversePriority {
     }
 }
 
+// The code of priority is not called here: another author's crate knows no more than `rules` makes public.
 fn pay_from_last(estate: u32, claims: &[u32], awards: &mut [u32])
     requires { length awards.old ≡ length claims.now }
     ensures { awards.new ≡ reverse_priority estate claims.now }
 {
     let mut left = estate;
-    for k in (0..claims.len()).rev() {
-        let award = left.min(claims[k]);
+    for (k, claim) in claims.iter().enumerate().rev() {
+        let award = left.min(*claim);
         awards[k] = award;
         left -= award;
     }

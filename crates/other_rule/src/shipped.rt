@@ -49,10 +49,9 @@ fn every_house_of_the_ring(rt: HostRuntime) -> Result<(), Fail> {
 
 // The number of the cause for which a list is refused, and the creditor named.
 fn refusal(claims: &[u32], room: usize) -> Option<(u8, u8)> {
-    match check_claims(claims, room) {
-        Ok(()) => None,
-        Err(fault) => Some((fault.cause.number(), fault.creditor)),
-    }
+    check_claims(claims, room)
+        .err()
+        .map(|fault| (fault.cause.number(), fault.creditor))
 }
 
 #[test]

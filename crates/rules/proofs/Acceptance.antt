@@ -1,19 +1,34 @@
 -- Claims that can be divided, with room for the awards, are not refused.
-use Rattle.std.proofs.Common.{◌≡◌, ℕ, suc, ◌≤◌, List, [], ◌∷◌, length, get_or, None, Ok, Err, Result, refl, arith}
-use Rattle.std.proofs.lemmas.Bool.{le-leb}
+use Rattle.std.proofs.Common.{◌≡◌, ℕ, ◌≤◌, ltb, List, length, get_or, position, None, Ok, Err, Result, ⊎_elim, arith}
+use Rattle.std.proofs.lemmas.List.{get_or_past}
+use Rattle.std.proofs.lemmas.List.Sums.{position_or_len_is, fails_before_first}
+use Rattle.std.specs.List.{position_or_len}
+use Rattle.std.proofs.lemmas.Bool.{le-ltb, lt-ltb, ltb-false, cases_lt}
 use Rattle.std.proofs.lemmas.Bool.Decides.{nat_tests}
 use Rattle.network.specs.Answers.{Gives}
 use Rattle.network.specs.declared.fault.Fault.{Fault}
-use Rattle.rules.specs.Claims.{Admitted, sound_front, awards_fault}
+use Rattle.rules.specs.Claims.{Admitted, awards_fault}
 
-all_sound : (cs : List ℕ) → ((k : ℕ) → get_or cs k 0 ≤ 10000) → sound_front cs ≡ length cs
-all_sound [] small = refl
-all_sound (c ∷ cs) small = rw (le-leb c 10000 (small 0)) (omega (arith, all_sound cs (λ k. small (suc k))))
+none_large : (cs : List ℕ) → ((k : ℕ) → get_or cs k 0 ≤ 10000) → position (ltb 10000) cs ≡ None
+none_large cs small =
+    let past = position_or_len_is (ltb 10000) cs (length cs) 0 (omega arith) (λ k lt. le-ltb 10000 (get_or cs k 0) (small k)) (λ lt. absurd (omega arith)) in
+    grind (arith, nat_tests)
+
+pub all_small : (cs : List ℕ) → position (ltb 10000) cs ≡ None → (k : ℕ) → get_or cs k 0 ≤ 10000
+all_small cs none k =
+    ⊎_elim
+    (λ first. let is = lt-ltb (position_or_len (ltb 10000) cs) (length cs) first in absurd (grind (arith, nat_tests)))
+    (λ past.
+    ⊎_elim
+    (λ lt. ltb-false 10000 (get_or cs k 0) (fails_before_first (ltb 10000) cs k 0 (omega arith)))
+    (λ le. omega (arith, get_or_past cs k 0 le))
+    (cases_lt k (length cs)))
+    (cases_lt (position_or_len (ltb 10000) cs) (length cs))
 
 pub accepted : (cs : List ℕ) (room : ℕ) → Admitted cs → room ≡ length cs → awards_fault cs room ≡ None
 accepted cs room ok same =
     let few = ok.few in
-    let front = all_sound cs ok.small in
+    let none = none_large cs ok.small in
     grind (arith, nat_tests)
 
 -- so the awards are filled in

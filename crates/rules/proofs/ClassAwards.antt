@@ -10,11 +10,17 @@ use Rattle.rules.specs.InTurn.{Part, joined, earlier, share, in_turn}
 use Rattle.rules.specs.Laws.{Rule, Lawful}
 use Rattle.rules.specs.Places.{each}
 use Rattle.rules.specs.Theorems.{lower_claim, lower_claims, class_share, ByClass}
-use Rattle.rules.specs.ClassLaws.{get_or_of_class, length_joined, get_or_joined, class_splits}
+use Rattle.rules.specs.ClassLaws.{length_of_class, get_or_of_class, length_joined, get_or_joined}
 use Rattle.rules.proofs.DualAwards.{paid_in_full}
-use Rattle.rules.specs.InTurnLaws.{earlier_is, earlier_grows, portion_admitted}
+use Rattle.rules.specs.InTurnLaws.{earlier_is, earlier_grows}
 use Rattle.rules.specs.Lists.{length_each, get_or_each, get_or_plus, get_or_zeros}
 use Rattle.rules.specs.Picks.{in_list}
+
+pub class_admitted : (ts : List ℕ) (t : ℕ) (cs : List ℕ) → Admitted cs → Admitted (of_class ts t cs)
+class_admitted ts t cs ok = record {
+  few = omega (arith, length_of_class ts t cs, ok.few);
+  small = λ k. let claim = get_or_of_class ts t cs k in let small = ok.small k in grind (arith, nat_tests);
+}
 
 module _ (ts : List ℕ) (f : Rule) (low : (k : ℕ) → get_or ts k 0 ≤ 7) (laws : Lawful f) (cs : List ℕ) (ok : Admitted cs) where
   abbrev parts : ℕ → Part
@@ -23,16 +29,13 @@ module _ (ts : List ℕ) (f : Rule) (low : (k : ℕ) → get_or ts k 0 ≤ 7) (l
   abbrev brought : ℕ → ℕ → List ℕ
   brought t e = f (share parts t e cs) (of_class ts t cs)
 
-  class_admitted : (t : ℕ) → t < 8 → Admitted (of_class ts t cs)
-  class_admitted t lt = portion_admitted parts 8 (class_splits ts f low laws) cs ok t lt
-
   -- a class brings nothing to creditors of another
-  nothing_else : (t e k : ℕ) → t < 8 → (get_or ts k 0 ≡ t → ⊥) → get_or (brought t e) k 0 ≡ 0
-  nothing_else t e k lt ne =
+  nothing_else : (t e k : ℕ) → (get_or ts k 0 ≡ t → ⊥) → get_or (brought t e) k 0 ≡ 0
+  nothing_else t e k ne =
       let other = ne_eqb (get_or ts k 0) t ne in
       let claim = get_or_of_class ts t cs k in
       let none : get_or (of_class ts t cs) k 0 ≡ 0 = grind (arith, nat_tests) in
-      omega (arith, laws.within (share parts t e cs) (of_class ts t cs) (class_admitted t lt) k)
+      omega (arith, laws.within (share parts t e cs) (of_class ts t cs) (class_admitted ts t cs ok) k)
 
   so_far : (n e k : ℕ) → n ≤ 8 → get_or (in_turn parts n e cs) k 0 ≡ cond (ltb (get_or ts k 0) n) (get_or (brought (get_or ts k 0) e) k 0) 0
   so_far zero e k le = rw (le-ltb (get_or ts k 0) 0 (omega arith)) (get_or_zeros (length cs) k)
@@ -44,7 +47,7 @@ module _ (ts : List ℕ) (f : Rule) (low : (k : ℕ) → get_or ts k 0 ≤ 7) (l
       let here = ap (λ t. get_or (brought t e) k 0) is in
       grind (arith, nat_tests))
       (λ ne.
-      let other = nothing_else n e k (omega arith) ne in
+      let other = nothing_else n e k ne in
       grind (arith, nat_tests))
       (cases_eq (get_or ts k 0) n)
 
@@ -68,14 +71,14 @@ module _ (ts : List ℕ) (f : Rule) (low : (k : ℕ) → get_or ts k 0 ≤ 7) (l
   served e j some =
       let t : ℕ = get_or ts j 0 in
       let s : ℕ = share parts t e cs in
-      let ok-t = class_admitted t (omega (arith, low j)) in
+      let ok-t = class_admitted ts t cs ok in
       let listed = in_list (brought t e) j (omega (arith, class_award e j)) in
       omega (arith, class_award e j, get_or-le-sum_by (λ x. x) (brought t e) j 0 listed, laws.total s (of_class ts t cs) ok-t)
 
   lower_full : (e i j : ℕ) → get_or ts i 0 < get_or ts j 0 → 0 < get_or (by_class ts f e cs) j 0 → get_or (by_class ts f e cs) i 0 ≡ get_or cs i 0
   lower_full e i j less some =
       let t : ℕ = get_or ts i 0 in
-      let ok-t = class_admitted t (omega (arith, low i)) in
+      let ok-t = class_admitted ts t cs ok in
       let enough : sum (of_class ts t cs) ≤ share parts t e cs = omega (arith, served e j some, earlier_grows parts cs (suc t) (get_or ts j 0) (omega arith)) in
       let full = ap (λ xs. get_or xs i 0) (paid_in_full f laws (share parts t e cs) (of_class ts t cs) ok-t enough) in
       let own = get_or_of_class ts t cs i in

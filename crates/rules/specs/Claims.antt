@@ -1,6 +1,6 @@
 -- The claims that a rulebook divides an estate over, and the lists and buffers that it refuses.
-use Rattle.std.specs.Prelude.{ℕ, ◌≤◌, cond, not, ◌||◌, List, length, Some, None, Option, ◌==◌, nat_le, nat_lt, slice_index}
-use Rattle.std.specs.List.{prefix_len}
+use Rattle.std.specs.Prelude.{ℕ, ◌≤◌, cond, not, ◌||◌, List, length, Some, Option, ◌==◌, nat_lt, position, slice_index}
+use Rattle.std.specs.Option.{option_map}
 use Rattle.network.specs.declared.fault.Cause.TheVariants.{ListLength, ListedClaimTooLarge}
 use Rattle.network.specs.declared.fault.Layer.TheVariants.{Rule}
 use Rattle.network.specs.declared.fault.Fault.{Fault}
@@ -11,13 +11,8 @@ pub record Admitted (cs : List ℕ) : Type 0 where
   pub few : length cs ≤ 32
   pub small : (k : ℕ) → slice_index cs k ≤ 10000
 
--- how many claims stand before the first one above 10,000
-abbrev pub sound_front : List ℕ → ℕ
-sound_front cs = prefix_len (λ c. nat_le c 10000) cs
-
 -- the first check that a list of claims and a buffer with that much room fail
 abbrev pub awards_fault : List ℕ → ℕ → Option Fault
 awards_fault cs room =
     cond (nat_lt 32 (length cs) || not (room == length cs)) (Some (of_nobody Rule ListLength))
-    (cond (nat_lt (sound_front cs) (length cs)) (Some (of_creditor Rule ListedClaimTooLarge (sound_front cs)))
-    None)
+    (option_map (of_creditor Rule ListedClaimTooLarge) (position (nat_lt 10000) cs))

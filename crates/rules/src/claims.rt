@@ -1,10 +1,43 @@
-// The claims of a list together.
-ghost use Rattle.std.specs.Prelude.{◌≡◌, sum};
-ghost use Rattle.rules.specs.Claims.{Admitted};
+// Lists of claims that an estate can be divided over.
+ghost use Rattle.std.specs.Prelude.{◌≡◌, length, sum};
+ghost use Rattle.network.specs.Answers.{Gives};
+ghost use Rattle.rules.specs.Claims.{awards_fault};
 
-pub(crate) fn claims_total(claims: &[u32]) -> u32
-    requires { Admitted claims.now }
-    ensures { result ≡ sum claims.now }
-{
-    claims.iter().sum()
+use crate::rulebook::check_claims;
+use network::Fault;
+use std::marker::Model;
+
+// At most 32 claims, each of at most 10,000.
+#[derive(Drop)]
+pub(crate) struct ClaimList<'a> {
+    pub(crate) list: &'a [u32],
+}
+
+impl<'a> Model for ClaimList<'a> {
+    ghost use Rattle.std.specs.Prelude.{List, ℕ};
+    ghost use Rattle.rules.specs.Claims.{Admitted};
+
+    ghost Value = { List ℕ };
+
+    ghost view = { λ a. a.list.now };
+
+    ghost invariant = { λ a. Admitted a.list.now };
+}
+
+impl<'a> ClaimList<'a> {
+    // The list, if it passes the checks that every rulebook makes.
+    pub(crate) fn check(list: &'a [u32], room: usize) -> Result<ClaimList<'a>, Fault>
+        ensures { Gives (awards_fault list.now room)
+            (λ claims. (claims ≡ list.now) × (room ≡ length list.now))
+            (Unit {0}) result }
+    {
+        check_claims(list, room)?;
+        Ok(ClaimList { list })
+    }
+
+    pub(crate) fn total(&self) -> u32
+        ensures { result ≡ sum self.now }
+    {
+        self.list.iter().sum()
+    }
 }

@@ -2,6 +2,7 @@
 ghost use Rattle.std.specs.Prelude.{◌≡◌, ℕ, ◌≤◌, length, slice_index};
 ghost use Rattle.rules.specs.Classes.{classes_of, of_class};
 
+use crate::claims::ClaimList;
 use network::Figures;
 
 // A class from 0 to 7 for each of 32 creditors.
@@ -18,21 +19,28 @@ impl ClassTable {
         ensures entries { result.classes ≡ classes_of figures.now }
         ensures past { (k : ℕ) → figures.now.n ≤ k → slice_index result.classes k ≡ 0 }
     {
-        let mut classes = [0; 32];
-        for (k, member) in figures.members.iter().enumerate() {
-            classes[k] = member.class;
+        ClassTable {
+            classes: figures.members.map(|member| member.class),
         }
-        ClassTable { classes }
     }
 
-    // The claims of one class, all others taken as 0.
-    pub(crate) fn select(&self, class: u8, claims: &[u32], part: &mut [u32])
-        requires few { length claims.now ≤ 32 }
-        requires same { length part.old ≡ length claims.now }
-        ensures { part.new ≡ of_class self.now.classes class claims.now }
+    // The claims of one class, all others taken as 0, for which there is room.
+    pub(crate) fn select<'a>(
+        &self,
+        class: u8,
+        claims: &ClaimList,
+        room: &'a mut [u32],
+    ) -> ClaimList<'a>
+        requires { length room.now ≡ length claims.now }
+        ensures { result ≡ of_class self.now.classes class claims.now }
     {
-        for (k, claim) in claims.iter().enumerate() {
-            part[k] = if self.classes[k] == class { *claim } else { 0 };
+        room.copy_from_slice(claims.list);
+        // Numbered and not zipped: of what an adapter of `iter_mut` lends, a proof knows only the length.
+        for (k, claim) in room.iter_mut().enumerate() {
+            if self.classes[k] != class {
+                *claim = 0;
+            }
         }
+        ClaimList { list: room }
     }
 }

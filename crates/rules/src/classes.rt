@@ -1,14 +1,14 @@
 // Classes: the creditors of a lower class are served before those of a higher one.
 ghost use Rattle.std.specs.Prelude.{◌≡◌, ℕ, length};
-ghost use Rattle.rules.specs.Claims.{Admitted};
 ghost use Rattle.rules.specs.Classes.{by_class};
 ghost use Rattle.rules.specs.InTurn.{InTurnLawful};
 ghost use Rattle.rules.specs.Theorems.{ByClass};
 ghost use Rattle.rules.specs.ClassLaws.{class_laws};
 
+use crate::claims::ClaimList;
 use crate::class_table::ClassTable;
 use crate::in_turn::serve;
-use crate::rulebook::{Rulebook, check_claims};
+use crate::rulebook::Rulebook;
 use network::Fault;
 
 // How many classes there are, from class 0 up.
@@ -34,27 +34,18 @@ impl<R: Rulebook> Classes<R> {
         Classes { below, table }
     }
 
-    // Serves class after class, with room for the claims of a class and for what it is awarded.
-    fn serve_classes(
-        &self,
-        house: u8,
-        estate: u32,
-        claims: &[u32],
-        part: &mut [u32],
-        buffer: &mut [u32],
-        awards: &mut [u32],
-    )
-        requires admitted { Admitted claims.now }
-        requires parted { length part.old ≡ length claims.now }
-        requires room { length buffer.old ≡ length claims.now }
-        requires same { length awards.old ≡ length claims.now }
+    // Serves class after class.
+    fn serve_classes(&self, house: u8, estate: u32, claims: &ClaimList, awards: &mut [u32])
+        requires { length awards.old ≡ length claims.now }
         ensures { awards.new ≡ by_class self.now.table.classes (R.Rulebook.awarded self.now.below house) estate claims.now }
     {
         awards.fill(0);
+        let mut room = [0; 32];
+        let room = &mut room[..claims.list.len()];
         let mut left = estate;
         for class in 0..CLASSES {
-            self.table.select(class, claims, part);
-            left = serve(&self.below, house, left, part, buffer, awards);
+            let part = self.table.select(class, claims, room);
+            left = serve(&self.below, house, left, &part, awards);
         }
     }
 }
@@ -71,18 +62,8 @@ impl<R: Rulebook> Rulebook for Classes<R> {
         claims: &[u32],
         awards: &mut [u32],
     ) -> Result<(), Fault> {
-        check_claims(claims, awards.len())?;
-        let n = claims.len();
-        let mut part = [0; 32];
-        let mut buffer = [0; 32];
-        self.serve_classes(
-            house,
-            estate,
-            claims,
-            &mut part[..n],
-            &mut buffer[..n],
-            awards,
-        );
+        let claims = ClaimList::check(claims, awards.len())?;
+        self.serve_classes(house, estate, &claims, awards);
         Ok(())
     }
 }

@@ -5,8 +5,8 @@ ghost use Rattle.rules.specs.Places.{minus};
 ghost use Rattle.rules.specs.Theorems.{DualOf};
 ghost use Rattle.rules.specs.DualLaws.{dual_laws};
 
-use crate::claims::claims_total;
-use crate::rulebook::{Rulebook, check_claims};
+use crate::claims::ClaimList;
+use crate::rulebook::Rulebook;
 use network::Fault;
 
 // A layer over a rulebook: each creditor gets its claim less what the rulebook below awards it from what
@@ -33,8 +33,9 @@ fn take_from(claims: &[u32], awards: &mut [u32])
     requires within { (k : ℕ) → slice_index awards.old k ≤ slice_index claims.now k }
     ensures { awards.new ≡ minus claims.now awards.old }
 {
-    for (k, claim) in claims.iter().enumerate() {
-        awards[k] = *claim - awards[k];
+    // Numbered and not zipped: of what an adapter of `iter_mut` lends, a proof knows only the length.
+    for (k, award) in awards.iter_mut().enumerate() {
+        *award = claims[k] - *award;
     }
 }
 
@@ -50,8 +51,8 @@ impl<R: Rulebook> Rulebook for Dual<R> {
         claims: &[u32],
         awards: &mut [u32],
     ) -> Result<(), Fault> {
-        check_claims(claims, awards.len())?;
-        let lacking = claims_total(claims).saturating_sub(estate);
+        let total = ClaimList::check(claims, awards.len())?.total();
+        let lacking = total.saturating_sub(estate);
         self.below.awards(house, lacking, claims, awards)?;
         take_from(claims, awards);
         Ok(())

@@ -1,9 +1,8 @@
 // Serving a part of the claims from what the parts before it leave of the estate.
 ghost use Rattle.std.specs.Prelude.{◌≡◌, ℕ, ◌+◌, ◌-◌, ◌≤◌, min, length, sum, slice_index};
-ghost use Rattle.rules.specs.Claims.{Admitted};
 ghost use Rattle.rules.specs.Places.{plus};
 
-use crate::claims::claims_total;
+use crate::claims::ClaimList;
 use crate::rulebook::Rulebook;
 
 // Adds to each award what stands in its place in `more`.
@@ -12,37 +11,37 @@ fn add_to(awards: &mut [u32], more: &[u32])
     requires fits { (k : ℕ) → slice_index awards.old k + slice_index more.now k ≤ 10000 }
     ensures { awards.new ≡ plus awards.old more.now }
 {
-    for (k, units) in more.iter().enumerate() {
-        awards[k] += *units;
+    // Numbered and not zipped: of what an adapter of `iter_mut` lends, a proof knows only the length.
+    for (k, award) in awards.iter_mut().enumerate() {
+        *award += more[k];
     }
 }
 
-// Serves one part from what is left of the estate, and answers what is then left. The buffer takes what
-// the part brings each creditor, which is added to the awards.
+// Serves one part from what is left of the estate, adding to the awards what it brings each creditor, and
+// answers what is then left.
 pub(crate) fn serve<R: Rulebook>(
     rulebook: &R,
     house: u8,
     left: u32,
-    part: &[u32],
-    buffer: &mut [u32],
+    part: &ClaimList,
     awards: &mut [u32],
 ) -> u32
-    requires admitted { Admitted part.now }
-    requires room { length buffer.old ≡ length part.now }
     requires same { length awards.old ≡ length part.now }
     requires fits { (k : ℕ) → slice_index awards.old k + slice_index part.now k ≤ 10000 }
     ensures rest { result ≡ left - sum part.now }
     ensures served { awards.new ≡ plus awards.old (R.Rulebook.awarded rulebook.now house (min left (sum part.now)) part.now) }
 {
-    let total = claims_total(part);
+    let total = part.total();
     let share = left.min(total);
     // served in full a part brings everyone its claim, and served nothing it brings nobody a unit
     if share == total {
-        add_to(awards, part);
+        add_to(awards, part.list);
     } else if share > 0 {
+        let mut room = [0; 32];
+        let brought = &mut room[..part.list.len()];
         // an admitted part is not refused
-        let _ = rulebook.awards(house, share, part, buffer);
-        add_to(awards, buffer);
+        let _ = rulebook.awards(house, share, part.list, brought);
+        add_to(awards, brought);
     }
     left - share
 }

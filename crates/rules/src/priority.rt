@@ -14,11 +14,11 @@ fn pay_in_order(estate: u32, claims: &[u32], awards: &mut [u32])
     requires { length awards.old ≡ length claims.now }
     ensures { awards.new ≡ priority estate claims.now }
 {
+    awards.copy_from_slice(claims);
     let mut left = estate;
-    for (k, claim) in claims.iter().enumerate() {
-        let award = left.min(*claim);
-        awards[k] = award;
-        left -= award;
+    for award in awards.iter_mut() {
+        *award = left.min(*award);
+        left -= *award;
     }
 }
 

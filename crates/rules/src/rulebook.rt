@@ -36,10 +36,12 @@ pub fn check_claims(claims: &[u32], room: usize) -> Result<(), Fault>
     if claims.len() > 32 || claims.len() != room {
         return Err(Fault::of_nobody(Layer::Rule, Cause::ListLength));
     }
-    for (i, claim) in claims.iter().enumerate() {
-        if *claim > 10_000 {
-            return Err(Fault::of_creditor(Layer::Rule, Cause::ListedClaimTooLarge, i as u8));
-        }
+    match claims.iter().position(|claim| *claim > 10_000) {
+        Some(first) => Err(Fault::of_creditor(
+            Layer::Rule,
+            Cause::ListedClaimTooLarge,
+            first as u8,
+        )),
+        None => Ok(()),
     }
-    Ok(())
 }

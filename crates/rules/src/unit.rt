@@ -5,10 +5,10 @@ ghost use Rattle.rules.specs.Theorems.{Only, NeverRises, Foremost, UnitByUnit};
 ghost use Rattle.rules.specs.Unit.{dealt, unit_rule};
 ghost use Rattle.rules.specs.UnitLaws.{unit_laws};
 
-use crate::claims::claims_total;
+use crate::claims::ClaimList;
 use crate::dealing::deal;
 use crate::guessing::begin;
-use crate::rulebook::{Rulebook, check_claims};
+use crate::rulebook::Rulebook;
 use crate::standard::Standard;
 use network::Fault;
 
@@ -62,8 +62,8 @@ impl<S: Standard> Rulebook for UnitRule<S> {
         claims: &[u32],
         awards: &mut [u32],
     ) -> Result<(), Fault> {
-        check_claims(claims, awards.len())?;
-        if estate >= claims_total(claims) {
+        let admitted = ClaimList::check(claims, awards.len())?;
+        if estate >= admitted.total() {
             awards.copy_from_slice(claims);
             return Ok(());
         }

@@ -4,8 +4,8 @@ use Rattle.rules.specs.Places.{plus}
 use Rattle.rules.specs.Lists.{length_plus, get_or_plus}
 use Rattle.rules.proofs.in_turn.add_to.Goals as goal
 
-pub overflow_add-awards : goal.overflow_add-awards
-overflow_add-awards c =
+pub overflow_add-award : goal.overflow_add-award
+overflow_add-award c =
     let k : ℕ = c.loop-k.k in
     let bound = c.requires.fits k in
     let untouched = c.loop-k.invariant.1 k (omega arith) in

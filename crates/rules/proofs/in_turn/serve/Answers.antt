@@ -1,39 +1,51 @@
-use Rattle.std.proofs.Common.{◌≡◌, ℕ, min, List, sum, sym, ap, ◌∙◌, arith, rules}
+use Rattle.std.proofs.Common.{◌≡◌, ℕ, min, List, length, get_or, take, replicate, sum, sym, ap, ◌∙◌, arith, rules}
+use Rattle.std.proofs.lemmas.List.{length-take, length-replicate}
+use Rattle.rules.specs.Claims.{Admitted}
 use Rattle.rules.specs.Places.{plus}
 use Rattle.rules.proofs.Acceptance.{filled}
 use Rattle.rules.proofs.Served.{nothing_served, served_in_full}
 use Rattle.rules.proofs.in_turn.serve.Goals as goal
 use Rattle.rules.proofs.in_turn.serve.Goals.{then-share-total, else-share-total+then-share-gt0, else-share-total+else-share-gt0}
 
+-- the first of 32 places, one for each claim
+room : (cs : List ℕ) → Admitted cs → length (take (length cs) (replicate {A = ℕ} 32 0)) ≡ length cs
+room cs ok = omega (arith, ok.few, length-take (length cs) (replicate {A = ℕ} 32 0), length-replicate {A = ℕ} 32 0)
+
 pub add_to-requires-then-share-gt0 : goal.add_to-requires-then-share-gt0
 add_to-requires-then-share-gt0 g c =
     let f = g.R.Rulebook.awarded c.args.rulebook.now c.args.house in
     let laws = g.met.R.Rulebook.lawful c.args.rulebook.now c.args.house in
-    let cs : List ℕ = c.args.part.now in
+    let cs : List ℕ = c.part.inside.list.now in
+    let given : cs ≡ c.args.part.now = c.part.view_is in
+    let long = ap length given in
     let e : ℕ = c.min-share.result in
-    let is : c.awards.new.awards ≡ f e cs = filled cs _ c.awards.result _ _ _ c.requires.admitted (omega arith) c.awards.ensures in
+    let is : c.awards.new.awards ≡ f e cs = filled cs _ c.awards.result _ _ _ c.part.invariant (room cs c.part.invariant) c.awards.ensures in
     record {
-      same = rw is (omega (arith, laws.count e cs c.requires.admitted));
-      fits = λ k. rw is (omega (arith, laws.within e cs c.requires.admitted k, c.requires.fits k));
+      same = rw is (omega (arith, laws.count e cs c.part.invariant));
+      fits = λ k. rw is (omega (arith, laws.within e cs c.part.invariant k, c.requires.fits k, ap (λ xs. get_or xs k 0) given));
     }
 
 pub returns : goal.returns
 returns g c =
     let f = g.R.Rulebook.awarded c.args.rulebook.now c.args.house in
     let laws = g.met.R.Rulebook.lawful c.args.rulebook.now c.args.house in
-    let cs : List ℕ = c.args.part.now in
+    let cs : List ℕ = c.part.inside.list.now in
+    let given : cs ≡ c.args.part.now = c.part.view_is in
+    let long = ap length given in
+    let ok = c.part.invariant in
     let e : ℕ = c.min-share.result in
     let now : List ℕ = c.args.awards.now in
-    let worth : e ≡ min c.args.left (sum cs) = c.min-share.ensures ∙ ap (min c.args.left) c.claims_total-total.ensures in
+    let total : c.total-total.result ≡ sum cs = c.total-total.ensures ∙ sym (ap sum given) in
+    let worth : e ≡ min c.args.left (sum cs) = c.min-share.ensures ∙ ap (min c.args.left) total in
     let served : c.if-share-total.awards ≡ plus now (f e cs) =
     elim c.if-share-total.branch [
       | then-share-total w ↦
-          let all : e ≡ sum cs = w.if-share-total.true ∙ c.claims_total-total.ensures in
-          w.awards-is ∙ w.add_to.ensures ∙ ap (plus now) (sym (ap (λ x. f x cs) all ∙ served_in_full f laws cs c.requires.admitted))
+          let all : e ≡ sum cs = w.if-share-total.true ∙ total in
+          w.awards-is ∙ w.add_to.ensures ∙ ap (plus now) (sym (ap (λ x. f x cs) all ∙ served_in_full f laws cs ok))
       | else-share-total+then-share-gt0 w ↦
-          w.awards-is ∙ w.add_to-then-share-gt0.ensures ∙ ap (plus now) (filled cs _ w.awards.result _ _ _ c.requires.admitted (omega arith) w.awards.ensures)
+          w.awards-is ∙ w.add_to-then-share-gt0.ensures ∙ ap (plus now) (filled cs _ w.awards.result _ _ _ ok (room cs ok) w.awards.ensures)
       | else-share-total+else-share-gt0 w ↦
           let none : e ≡ 0 = omega (arith, w.if-share-gt0.false) in
-          w.awards-is ∙ nothing_served f laws cs now c.requires.admitted c.requires.same ∙ sym (ap (λ x. plus now (f x cs)) none)
+          w.awards-is ∙ nothing_served f laws cs now ok (omega arith) ∙ sym (ap (λ x. plus now (f x cs)) none)
     ] in
-    record { rest = search rules; served = served ∙ ap (λ x. plus now (f x cs)) worth }
+    record { rest = search rules; served = served ∙ ap (λ x. plus now (f x cs)) worth ∙ ap (λ xs. plus now (f (min c.args.left (sum xs)) xs)) given }
