@@ -45,16 +45,6 @@ passes low high byte t body h =
       checked = last.1;
     }
 
-pub body_decides :
-    (low high byte : ℕ) (t : List ℕ) (body : Option Fault) →
-    record_fault low high byte t None ≡ None → record_fault low high byte t body ≡ body
-body_decides low high byte t body h = grind arith
-
-pub record_decides :
-    (low high byte : ℕ) (t : List ℕ) (body : Option Fault) (e : Fault) →
-    record_fault low high byte t None ≡ Some e → record_fault low high byte t body ≡ Some e
-record_decides low high byte t body e h = grind arith
-
 of_kind : (low : ℕ) (t : List ℕ) → low ≤ kind t → kind t ≤ low → record_length t ≡ 1 + body_length low
 of_kind low t a b = let e : kind t ≡ low = omega arith in ap (λ k. 1 + body_length k) e
 

@@ -1,5 +1,5 @@
 -- The checks of a record at its place in a network file that is loaded.
-use Rattle.std.specs.Prelude.{ℕ, ◌+◌, ◌*◌, cond, not, ◌||◌, List, length, Some, None, Ok, Err, Option, Result, ◌==◌, nat_lt, slice_index}
+use Rattle.std.specs.Prelude.{ℕ, ◌+◌, ◌*◌, cond, not, ◌||◌, List, length, Some, None, Option, ◌==◌, nat_lt, slice_index}
 use Rattle.network.specs.declared.fault.Fault.{Fault}
 use Rattle.network.specs.declared.fault.Cause.TheVariants.{NotDue, ClaimOrder}
 use Rattle.network.specs.Faults.{at_byte}
@@ -8,11 +8,6 @@ use Rattle.netfile.specs.declared.due.Due.{Due}
 use Rattle.netfile.specs.declared.due.Due.TheVariants.{Network, Member, Claim, Nothing}
 use Rattle.netfile.specs.Records.{file_fault, kind, record_fault}
 use Rattle.netfile.specs.Files.{number_at}
-
--- the draft's answer to an entry, whose fault gains the byte
-abbrev pub met_at : ℕ → Result (Unit {0}) Fault → Result (Unit {0}) Fault
-met_at byte (Ok x) = Ok x
-met_at byte (Err e) = Err (at_byte byte e)
 
 -- the draft's fault, which gains the byte, or else the next check
 abbrev pub draft_or : ℕ → Option Fault → Option Fault → Option Fault

@@ -3,8 +3,9 @@ ghost use Rattle.netfile.specs.Loads.{Loaded, Accepts, Only};
 
 use crate::due::Due;
 use crate::fault::file_fault;
+use crate::kind::BODY_LENGTHS;
 use crate::reading::read;
-use crate::record::{BODY_LENGTHS, rest_from};
+use crate::record::rest_from;
 use network::{Cause, Draft, Fault};
 
 // Sets every entry of a draft from the file of a network of as many members. The whole file is checked

@@ -4,8 +4,9 @@ ghost use Rattle.netfile.specs.Reads.{Reads};
 
 use crate::body::{claim_in, member_in};
 use crate::due::Due;
-use crate::fault::{file_fault, met_at};
-use crate::record::{CLAIM, END, MEMBER, NETWORK, Record, first_record};
+use crate::fault::file_fault;
+use crate::kind::Kind;
+use crate::record::{Record, first_record};
 use network::{Cause, Draft, Fault, MEMBERS};
 
 // Reads the record that `rest`, which stands at `byte`, begins with; answers what is due behind it.
@@ -24,7 +25,7 @@ pub(crate) fn read(draft: &mut Draft, rest: &[u8], byte: usize, due: Due) -> Res
 fn read_network(draft: &Draft, rest: &[u8], byte: usize) -> Result<Due, Fault>
     ensures { Reads draft.now.figures Due.Network byte rest.now result draft.now.figures }
 {
-    let Record::Network(body) = first_record(rest, byte, NETWORK, NETWORK)? else {
+    let Record::Network(body) = first_record(rest, byte, Kind::Network, Kind::Network)? else {
         return Err(file_fault(Cause::NotDue, byte));
     };
     if body[0] != draft.count().get() {
@@ -36,15 +37,16 @@ fn read_network(draft: &Draft, rest: &[u8], byte: usize) -> Result<Due, Fault>
 fn read_member(draft: &mut Draft, rest: &[u8], byte: usize, member: u8) -> Result<Due, Fault>
     ensures { Reads draft.old.figures (Due.Member member) byte rest.now result draft.new.figures }
 {
-    let Record::Member(body) = first_record(rest, byte, MEMBER, MEMBER)? else {
+    let Record::Member(body) = first_record(rest, byte, Kind::Member, Kind::Member)? else {
         return Err(file_fault(Cause::NotDue, byte));
     };
     let (number, entry) = member_in(body);
     if number != member {
         return Err(file_fault(Cause::NotDue, byte));
     }
-    let entered = draft.enter_member(member, entry.house, entry.class, entry.endowment);
-    met_at(byte, entered)?;
+    draft
+        .enter_member(member, entry.house, entry.class, entry.endowment)
+        .map_err(|fault| fault.at_byte(byte))?;
     if member + 1 < draft.count().get() {
         Ok(Due::Member(member + 1))
     } else {
@@ -55,12 +57,13 @@ fn read_member(draft: &mut Draft, rest: &[u8], byte: usize, member: u8) -> Resul
 fn read_claim(draft: &mut Draft, rest: &[u8], byte: usize, least: usize) -> Result<Due, Fault>
     ensures { Reads draft.old.figures (Due.Claim least) byte rest.now result draft.new.figures }
 {
-    let Record::Claim(body) = first_record(rest, byte, CLAIM, END)? else {
+    let Record::Claim(body) = first_record(rest, byte, Kind::Claim, Kind::End)? else {
         return Ok(Due::Nothing);
     };
     let (debtor, creditor, units) = claim_in(body);
-    let entered = draft.enter_claim(debtor, creditor, units);
-    met_at(byte, entered)?;
+    draft
+        .enter_claim(debtor, creditor, units)
+        .map_err(|fault| fault.at_byte(byte))?;
     let place = MEMBERS * debtor as usize + creditor as usize;
     if units == 0 || place < least {
         return Err(file_fault(Cause::ClaimOrder, byte));

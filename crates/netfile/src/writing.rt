@@ -1,12 +1,13 @@
 // Writing a draft as a network file.
-ghost use Rattle.std.specs.Prelude.{◌≡◌, ◌+◌, ◌≤◌, length};
+ghost use Rattle.std.specs.Prelude.{◌≡◌, ◌+◌, ◌≤◌, count_by, length, nat_lt};
+ghost use Rattle.std.specs.List.{flat_map};
 ghost use Rattle.network.specs.Answers.{Gives};
 ghost use Rattle.netfile.specs.Files.{members_of, claims_of, file_of};
 ghost use Rattle.netfile.specs.Writes.{short_fault, Written, Sole, Put};
 
 use crate::body::{claim_record, member_record};
 use crate::fault::file_fault;
-use crate::record::{BODY_LENGTHS, CLAIM, END, MEMBER, NETWORK};
+use crate::kind::Kind;
 use network::{Cause, Draft, Fault, Figures, MEMBERS};
 
 // The places of claims: 32 times the debtor plus the creditor.
@@ -16,14 +17,21 @@ const PLACES: usize = MEMBERS * MEMBERS;
 pub fn file_length(figures: &Figures) -> usize
     ensures { result ≡ length (file_of figures.now) }
 {
-    let members = figures.n as usize * (1 + BODY_LENGTHS[MEMBER as usize]);
-    let mut total = 1 + BODY_LENGTHS[NETWORK as usize] + members;
-    for place in 0..PLACES {
-        if figures.claims[place / MEMBERS][place % MEMBERS] > 0 {
-            total += 1 + BODY_LENGTHS[CLAIM as usize];
-        }
-    }
-    total + 1 + BODY_LENGTHS[END as usize]
+    let members = figures.n as usize * Kind::Member.record_length();
+    let claims = claim_count(figures) * Kind::Claim.record_length();
+    Kind::Network.record_length() + members + claims + Kind::End.record_length()
+}
+
+// The number of claims above 0, each of which has a record.
+fn claim_count(figures: &Figures) -> usize
+    ensures { result ≡ count_by (λ x. nat_lt 0 x) (flat_map (λ row. row) figures.now.claims) }
+{
+    figures
+        .claims
+        .iter()
+        .flatten()
+        .filter(|units| **units > 0)
+        .count()
 }
 
 // Writes a draft's file into a buffer and answers its length; the bytes behind it stay.
@@ -37,10 +45,10 @@ pub fn write(draft: &Draft, buffer: &mut [u8]) -> Result<usize, Fault>
     if buffer.len() < file_length(figures) {
         return Err(file_fault(Cause::ShortBuffer, 0));
     }
-    let mut end = put(buffer, 0, &[NETWORK, figures.n]);
+    let mut end = put(buffer, 0, &[Kind::Network as u8, figures.n]);
     end = put_members(buffer, end, figures);
     end = put_claims(buffer, end, figures);
-    Ok(put(buffer, end, &[END]))
+    Ok(put(buffer, end, &[Kind::End as u8]))
 }
 
 fn put_members(buffer: &mut [u8], start: usize, figures: &Figures) -> usize

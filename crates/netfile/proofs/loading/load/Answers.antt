@@ -1,5 +1,5 @@
 use Rattle.std.proofs.Common.{◌≡◌, ℕ, ◌≤◌, List, length, take, drop, Some, Ok, Err, sym, refl, ap, ◌∙◌, subst, arith}
-use Rattle.std.proofs.lemmas.List.{take_all, drop_all, length-drop}
+use Rattle.std.proofs.lemmas.List.{take_all, drop_all}
 use Rattle.std.proofs.lemmas.Result.{err_from_is_err_and}
 use Rattle.network.specs.declared.draft.Draft.{Draft}
 use Rattle.network.specs.declared.fault.Fault.{Fault}
@@ -17,9 +17,6 @@ refused :
     (b ≤ length s) × Stands d.figures.n f due (take b s) → due_fault d.figures.n due b (drop b s) ≡ Some e → Loaded d s (Err e) d
 refused d s e f due b inv fails =
     (refl, record { network = f; due = due; byte = b; count = inv.1.0; within = inv.0; before = inv.1.1; fails = fails })
-
-pub read-requires : goal.read-requires
-read-requires c = omega (arith, ap length c.rest_from-rest.ensures.bytes, length-drop c.loop-byte.byte c.args.file.now)
 
 pub returns-in_err-due : goal.returns-in_err-due
 returns-in_err-due c =
