@@ -45,7 +45,7 @@ fn read_member(draft: &mut Draft, rest: &[u8], byte: usize, member: u8) -> Resul
         return Err(file_fault(Cause::NotDue, byte));
     }
     draft
-        .enter_member(member, entry.house, entry.class, entry.endowment)
+        .enter_member(member, entry)
         .map_err(|fault| fault.at_byte(byte))?;
     if member + 1 < draft.count().get() {
         Ok(Due::Member(member + 1))

@@ -18,7 +18,7 @@ pub fn copy(from: &Draft, to: &mut Draft, buffer: &mut [u8]) -> Result<usize, Fa
         × (to.new.figures ≡ from.now.figures))
         ((to.new ≡ to.old) × (buffer.new ≡ buffer.old)) result }
 {
-    if to.count().get() != from.count().get() {
+    if to.count() != from.count() {
         return Err(file_fault(Cause::NotDue, 0));
     }
     let length = write(from, buffer)?;
