@@ -60,7 +60,7 @@ Ahead f due = (q : ℕ) → ahead_of due ≤ q → q < 1024 → claim_of f q ≡
 
 idle : (f : Figures) (p q : ℕ) → p ≤ q → q ≤ 1024 → Ahead f (Claim p) → claims_to f q ≡ claims_to f p
 idle f p q h most ahead =
-    let none : (i : ℕ) → p ≤ i → i < q → claim_bytes f i ≡ [] = λ i a b. claim_none f i (omega (arith, ahead i a (omega arith))) in
+    let none : (i : ℕ) → p ≤ i → i < q → claim_bytes f i ≡ [] = λ i a b. claim_none _ _ (claim_of f i) (omega (arith, ahead i a (omega arith))) in
     ap (λ r. members_to f f.n ++ r) (run_idle (claim_bytes f) p q h none)
 
 member_step :
