@@ -9,7 +9,7 @@ use crate::kind::Kind;
 use network::{Cause, Fault};
 
 // A record: its kind, and its body as a part of the file.
-#[derive(Clone, Copy)]
+#[derive(Clone, Copy, PartialEq, Eq, Debug)]
 pub enum Record<'a> {
     Network(&'a [u8]),
     Member(&'a [u8]),
@@ -35,10 +35,11 @@ pub fn rest_after<'a>(file: &'a [u8], byte: usize) -> Result<&'a [u8], Fault>
 }
 
 // What stands in a file from a byte on: nothing past its end.
-pub(crate) fn rest_from<'a>(file: &'a [u8], byte: usize) -> &'a [u8]
+fn rest_from<'a>(file: &'a [u8], byte: usize) -> &'a [u8]
     ensures bytes { result.now ≡ drop byte file.now }
     ensures place { byte ≤ length file.now → IsRest file.entry byte result }
 {
+    // By an index: of a part that `get` gives, a proof does not know where in memory it stands.
     if byte <= file.len() {
         &file[byte..]
     } else {
@@ -57,7 +58,6 @@ pub(crate) fn first_record<'a>(
         (IsRecord rest.entry 0) (Unit {0}) result }
 {
     let kind = first_kind(rest, byte, low, high)?;
-    // By an index: of a part that `get` gives, a proof does not know where in memory it stands.
     let body = &rest[1..kind.record_length()];
     match kind {
         Kind::Network => Ok(Record::Network(body)),
