@@ -1,4 +1,5 @@
 pub mod Passing
+pub mod Order
 pub mod Bytes
 pub mod Runs
 pub mod Files

@@ -1,5 +1,5 @@
 -- The network file: which bytes are the file of a network.
-use Rattle.std.specs.Prelude.{ℕ, zero, suc, ◌+◌, ◌*◌, ◌/◌, ◌%◌, cond, List, [], ◌∷◌, ◌++◌, ◌==◌, slice_index}
+use Rattle.std.specs.Prelude.{ℕ, zero, suc, ◌+◌, ◌*◌, ◌/◌, ◌%◌, cond, List, [], ◌∷◌, ◌++◌, Some, None, Option, ◌==◌, slice_index}
 use Rattle.network.specs.declared.figures.Figures.{Figures}
 use Rattle.network.specs.declared.figures.Member.{Member}
 use Rattle.network.specs.Entries.{member_at, claim_at}
@@ -41,6 +41,11 @@ units_bytes debtor creditor units = cond (units == 0) [] (claim_record debtor cr
 
 abbrev pub claim_bytes : Figures → ℕ → List ℕ
 claim_bytes f place = units_bytes (place / 32) (place % 32) (claim_of f place)
+
+-- the place behind the last claim
+abbrev pub place_after : Option (ℕ × ℕ) → ℕ
+place_after None = 0
+place_after (Some last) = 32 * last.0 + last.1 + 1
 
 abbrev pub members_of : Figures → List ℕ
 members_of f = run (member_bytes f) 0 f.n
