@@ -48,8 +48,9 @@ fn put(text: &[u8], buffer: &mut [u8]) -> usize
     ensures long { result ≡ length text.now }
     ensures bytes { buffer.new ≡ put_front text.now buffer.old }
 {
+    // By an index: of what `get_mut` lends, a proof knows only the length.
     if text.len() <= buffer.len() {
-        buffer[0..text.len()].copy_from_slice(text);
+        buffer[..text.len()].copy_from_slice(text);
     }
     text.len()
 }
@@ -63,6 +64,7 @@ fn divide(
 ) -> Result<(), Fault>
     ensures { Divided network.now house estate claims.now awards.old result awards.new }
 {
+    // The draft is filled in place, not answered: nothing with arrays passes through a `Result`.
     let mut draft = Draft::new(count(network)?);
     load(&mut draft, network)?;
     let rulebook = ring_rulebook(draft.figures());

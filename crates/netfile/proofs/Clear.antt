@@ -1,6 +1,6 @@
 -- The records of a network's file pass the checks of their places.
-use Rattle.std.proofs.Common.{◌≡◌, ℕ, ◌+◌, ◌*◌, ◌/◌, ◌%◌, ◌<◌, ◌≤◌, false, cond, ◌||◌, eqb, ltb, List, ◌++◌, length, Some, None, Option, refl, ap, ◌∙◌, inl, inr, ⊎_elim, arith}
-use Rattle.std.proofs.lemmas.Bool.{cases_lt, lt-leb, le-ltb, eq-eqb, ne_eqb, or_from, not_from_true, cond-false}
+use Rattle.std.proofs.Common.{◌≡◌, ℕ, ◌/◌, ◌%◌, ◌<◌, ◌≤◌, Bool, true, false, cond, not, ◌||◌, eqb, List, ◌++◌, length, Some, None, Option, refl, ap, ◌∙◌, inl, arith}
+use Rattle.std.proofs.lemmas.Bool.{lt-leb, le-ltb, eq-eqb, ne_eqb, or_from, not_from_true, cond-false}
 use Rattle.network.specs.declared.fault.Fault.{Fault}
 use Rattle.network.specs.declared.fault.Cause.TheVariants.{ClaimOrder}
 use Rattle.network.specs.declared.figures.Figures.{Figures}
@@ -9,7 +9,8 @@ use Rattle.network.specs.Refusals.{member_fault, claim_fault}
 use Rattle.netfile.specs.declared.due.Due.TheVariants.{Network, Member, Claim}
 use Rattle.netfile.specs.Records.{file_fault, kind, outside, record_length, record_fault}
 use Rattle.netfile.specs.Files.{number_at, claim_of, network_record, member_bytes, claim_record, end_record}
-use Rattle.netfile.specs.Checks.{draft_or, due_fault}
+use Rattle.netfile.specs.Checks.{draft_or, follows, due_fault}
+use Rattle.netfile.proofs.Order.{claim_members}
 use Rattle.netfile.proofs.Bytes.{number_of_bytes}
 
 -- the checks of a record that is whole and due
@@ -38,28 +39,25 @@ member_clear f k byte R h =
 claim_fits : (n i j x y : ℕ) → y ≡ x → i < n → j < n → (i ≡ j → ⊥) → x ≤ 10000 → claim_fault n i j y ≡ None
 claim_fits n i j x y e h k ne l = rw (e, lt-leb n i h, lt-leb n j k, ne_eqb i j ne, le-ltb 10000 x l)
 
-in_order : (y z least byte : ℕ) → 0 < y → least ≤ z → cond (eqb y 0 || ltb z least) (Some (file_fault ClaimOrder byte)) None ≡ None
-in_order y z least byte h k = cond-false _ _ _ (or_from (eqb y 0) (ltb z least) (ne_eqb y 0 (λ (e : y ≡ 0). omega arith)) (le-ltb z least k))
+in_order : (y : ℕ) (b : Bool) (byte : ℕ) → 0 < y → b ≡ true → cond (eqb y 0 || not b) (Some (file_fault ClaimOrder byte)) None ≡ None
+in_order y b byte h k = cond-false _ _ _ (or_from (eqb y 0) (not b) (ne_eqb y 0 (λ (e : y ≡ 0). omega arith)) (not_from_true b k))
 
 both : (byte : ℕ) (v next : Option Fault) → v ≡ None → next ≡ None → draft_or byte v next ≡ None
 both byte v next e h = rw e h
 
 pub claim_clear :
-    (f : Figures) (least q byte : ℕ) (R : List ℕ) → least ≤ q → 0 < claim_of f q →
-    due_fault f.n (Claim least) byte (claim_record (q / 32) (q % 32) (claim_of f q) ++ R) ≡ None
-claim_clear f least q byte R h some =
+    (f : Figures) (last : Option (ℕ × ℕ)) (q byte : ℕ) (R : List ℕ) → follows last (q / 32) (q % 32) ≡ true → 0 < claim_of f q →
+    due_fault f.n (Claim last) byte (claim_record (q / 32) (q % 32) (claim_of f q) ++ R) ≡ None
+claim_clear f last q byte R h some =
     let i = q / 32 in
     let j = q % 32 in
     let x = claim_of f q in
-    let allowed = f.allowed i j in
-    let i-small : i < f.n = ⊎_elim (λ (y : i < f.n). y) (λ (y : f.n ≤ i). absurd (let z = allowed (inr (inl y)) in omega arith)) (cases_lt i f.n) in
-    let j-small : j < f.n = ⊎_elim (λ (y : j < f.n). y) (λ (y : f.n ≤ j). absurd (let z = allowed (inr (inr y)) in omega arith)) (cases_lt j f.n) in
+    let members = claim_members f i j some in
     let units = number_of_bytes x (omega (arith, f.small i j)) in
-    let ok = claim_fits f.n i j x _ units i-small j-small (λ (e : i ≡ j). let z = allowed (inl e) in omega arith) (f.small i j) in
-    let place : least ≤ 32 * i + j = omega arith in
+    let ok = claim_fits f.n i j x _ units members.0 members.1 (λ (e : i ≡ j). let z = f.allowed i j (inl e) in omega arith) (f.small i j) in
     let y : ℕ = number_at (claim_record i j x ++ R) 3 in
-    let order = in_order y (32 * i + j) least byte (omega (arith, units)) place in
+    let order = in_order y (follows last i j) byte (omega (arith, units)) h in
     whole_passes 3 4 byte (claim_record i j x ++ R) _ refl refl (omega arith) (both byte (claim_fault f.n i j y) _ ok order)
 
-pub end_clear : (n least byte : ℕ) (R : List ℕ) → due_fault n (Claim least) byte (end_record ++ R) ≡ None
-end_clear n least byte R = whole_passes 3 4 byte (end_record ++ R) _ refl refl (omega arith) refl
+pub end_clear : (n : ℕ) (last : Option (ℕ × ℕ)) (byte : ℕ) (R : List ℕ) → due_fault n (Claim last) byte (end_record ++ R) ≡ None
+end_clear n last byte R = whole_passes 3 4 byte (end_record ++ R) _ refl refl (omega arith) refl

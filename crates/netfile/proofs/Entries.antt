@@ -23,6 +23,10 @@ module _ (f g : Figures) (k house class endowment : ℕ) (s : MemberSet f k hous
   pub claims_kept : (q : ℕ) → claim_of g q ≡ claim_of f q
   claims_kept q = ap (λ C. get_or (get_or C (q / 32) []) (q % 32) 0) s.claims
 
+-- the claim at a place
+pub at_place : (f : Figures) (q i j : ℕ) → q / 32 ≡ i → q % 32 ≡ j → claim_of f q ≡ claim_at f i j
+at_place f q i j d m = ap (λ a. claim_at f a (q % 32)) d ∙ ap (claim_at f i) m
+
 -- one cell of a table is set, and the others stay
 cell_same :
     (C : List (List ℕ)) (i j x : ℕ) → i < length C → j < length (get_or C i []) →
@@ -46,7 +50,7 @@ module _ (f g : Figures) (i j x q : ℕ) (debtor : i < f.n) (creditor : j < f.n)
   claim_entered =
       let row : i < length f.claims = omega (arith, f.rows, f.few) in
       let cell : j < length (get_or f.claims i []) = omega (arith, f.few, f.columns i (omega (arith, f.few))) in
-      let there = ap (λ a. claim_at g a (q % 32)) place_divides.0 ∙ ap (claim_at g i) place_divides.1 in
+      let there = at_place g q i j place_divides.0 place_divides.1 in
       there ∙ (ap (λ C. get_or (get_or C i []) j 0) s.claims ∙ cell_same f.claims i j x row cell)
 
   pub claim_kept : (r : ℕ) → r ≢ q → claim_of g r ≡ claim_of f r

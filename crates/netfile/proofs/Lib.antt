@@ -1,9 +1,9 @@
-pub mod Parts
 pub mod Passing
-pub mod Entering
+pub mod Order
 pub mod Bytes
 pub mod Runs
 pub mod Files
+pub mod Cells
 pub mod Puts
 pub mod Entries
 pub mod Steps

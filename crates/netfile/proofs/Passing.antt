@@ -7,7 +7,7 @@ use Rattle.netfile.specs.declared.due.Due.{Due}
 use Rattle.netfile.specs.declared.due.Due.TheVariants.{Network, Member, Claim, Nothing}
 use Rattle.netfile.specs.Records.{kind, body_length, record_length, outside, record_fault}
 use Rattle.netfile.specs.Files.{number_at}
-use Rattle.netfile.specs.Checks.{draft_or, place_of, due_fault}
+use Rattle.netfile.specs.Checks.{draft_or, follows, due_fault}
 
 -- a check that passed
 pub unless : (b : Bool) (e : Fault) (v : Option Fault) → cond b (Some e) v ≡ None → (b ≡ false) × (v ≡ None)
@@ -45,16 +45,6 @@ passes low high byte t body h =
       checked = last.1;
     }
 
-pub body_decides :
-    (low high byte : ℕ) (t : List ℕ) (body : Option Fault) →
-    record_fault low high byte t None ≡ None → record_fault low high byte t body ≡ body
-body_decides low high byte t body h = grind arith
-
-pub record_decides :
-    (low high byte : ℕ) (t : List ℕ) (body : Option Fault) (e : Fault) →
-    record_fault low high byte t None ≡ Some e → record_fault low high byte t body ≡ Some e
-record_decides low high byte t body e h = grind arith
-
 of_kind : (low : ℕ) (t : List ℕ) → low ≤ kind t → kind t ≤ low → record_length t ≡ 1 + body_length low
 of_kind low t a b = let e : kind t ≡ low = omega arith in ap (λ k. 1 + body_length k) e
 
@@ -82,16 +72,16 @@ positive zero h = absurd (h refl)
 positive (suc x) h = omega arith
 
 -- what passes where a claim is due
-pub record ClaimPasses (n least : ℕ) (t : List ℕ) : Type 0 where
+pub record ClaimPasses (n : ℕ) (last : Option (ℕ × ℕ)) (t : List ℕ) : Type 0 where
   pub long : 7 ≤ length t
   pub debtor : get_or t 1 0 < n
   pub creditor : get_or t 2 0 < n
   pub units : 0 < number_at t 3
-  pub rising : least ≤ place_of t
+  pub rising : follows last (get_or t 1 0) (get_or t 2 0) ≡ true
 
 pub claim_passes :
-    (n least byte : ℕ) (t : List ℕ) → due_fault n (Claim least) byte t ≡ None → kind t ≡ 3 → ClaimPasses n least t
-claim_passes n least byte t h k =
+    (n : ℕ) (last : Option (ℕ × ℕ)) (byte : ℕ) (t : List ℕ) → due_fault n (Claim last) byte t ≡ None → kind t ≡ 3 → ClaimPasses n last t
+claim_passes n last byte t h k =
     let p = passes 3 4 byte t _ h in
     let i = get_or t 1 0 in
     let j = get_or t 2 0 in
@@ -100,18 +90,19 @@ claim_passes n least byte t h k =
     let claim = sym (cond-false _ _ _ (ne_eqb (kind t) 4 (λ (e : kind t ≡ 4). omega arith))) ∙ p.checked in
     let c = draft_passes byte (claim_fault n i j x) _ claim in
     let members = or_parts (leb n i) (leb n j) (unless (leb n i || leb n j) _ _ c.0).0 in
-    let order = or_parts (eqb x 0) (ltb (place_of t) least) (unless (eqb x 0 || ltb (place_of t) least) _ _ c.1).0 in
+    let behind = follows last i j in
+    let order = or_parts (eqb x 0) (not behind) (unless (eqb x 0 || not behind) _ _ c.1).0 in
     record {
       long = omega (arith, p.whole);
       debtor = leb-false n i members.0;
       creditor = leb-false n j members.1;
       units = positive x (eqb-false x 0 order.0);
-      rising = ltb-false (place_of t) least order.1;
+      rising = not-false behind order.1;
     }
 
 -- a record that passes at its place lies in the file
 pub lies : (n : ℕ) (due : Due) (byte : ℕ) (t : List ℕ) → due_fault n due byte t ≡ None → 0 < length t → record_length t ≤ length t
 lies n Network byte t ok h = (passes 1 1 byte t _ ok).whole
 lies n (Member member) byte t ok h = (passes 2 2 byte t _ ok).whole
-lies n (Claim least) byte t ok h = (passes 3 4 byte t _ ok).whole
+lies n (Claim last) byte t ok h = (passes 3 4 byte t _ ok).whole
 lies n Nothing byte t ok h = absurd (let e = eqb-true (length t) 0 (ended (eqb (length t) 0) _ ok) in omega arith)

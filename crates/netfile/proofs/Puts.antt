@@ -1,17 +1,10 @@
 -- Bytes put over a buffer one after the other are put over it together.
-use Rattle.std.proofs.Common.{◌≡◌, ℕ, ◌+◌, ◌-◌, ◌≤◌, List, [], ◌++◌, length, take, drop, sym, ap, ◌∙◌, subst, add-zero, add_assoc, zero-add, arith}
-use borrow.Rule.Slice.PartMut.{put_mid}
+use Rattle.std.proofs.Common.{◌≡◌, ℕ, ◌+◌, ◌≤◌, List, [], ◌++◌, length, take, drop, sym, ap, ◌∙◌, subst, add-zero, add_assoc, zero-add, arith}
 use Rattle.std.proofs.lemmas.List.{append_assoc, length-append, take_at, drop_at, drop-drop, take-append-drop, length-take-le}
 use Rattle.network.specs.declared.figures.Figures.{Figures}
 use Rattle.netfile.specs.Files.{run, file_of}
 use Rattle.netfile.specs.Writes.{put_in, Put, Written}
 use Rattle.netfile.proofs.Runs.{run_more, run_skip}
-
--- as the code puts them
-pub mid_put : (start : ℕ) (ys zs bs : List ℕ) → zs ≡ ys → put_mid start ((start + length ys) - start) bs zs ≡ put_in start ys bs
-mid_put start ys zs bs e =
-    let k : (start + length ys) - start ≡ length ys = omega arith in
-    rw (e, k, drop-drop)
 
 pub put_as :
     {start end end' : ℕ} {xs ys before after after' : List ℕ} → Put start xs before end after → xs ≡ ys → end' ≡ end → after' ≡ after →

@@ -1,5 +1,5 @@
 -- The walk through a network's file passes every record of it, and reads the network's entries.
-use Rattle.std.proofs.Common.{◌≡◌, ℕ, zero, suc, ◌+◌, ◌/◌, ◌%◌, ◌<◌, ◌≤◌, cond, eqb, ltb, List, ◌++◌, length, get_or, drop, sym, refl, ap, ◌∙◌, subst, ⊎_elim, add-one, arith}
+use Rattle.std.proofs.Common.{◌≡◌, ℕ, zero, suc, ◌+◌, ◌/◌, ◌%◌, ◌<◌, ◌≤◌, true, cond, eqb, ltb, List, ◌++◌, length, get_or, drop, Some, None, Option, sym, refl, ap, ◌∙◌, subst, ⊎_elim, add-one, arith}
 use Rattle.std.proofs.lemmas.List.{append_assoc, append-nil, length-append, drop_at}
 use Rattle.std.proofs.lemmas.Bool.{cases_eq, le-ltb, lt-ltb, eq-eqb, ne_eqb, cond-true, cond-false}
 use Rattle.network.specs.declared.figures.Figures.{Figures}
@@ -8,8 +8,9 @@ use Rattle.network.specs.Entries.{member_at}
 use Rattle.netfile.specs.declared.due.Due.{Due}
 use Rattle.netfile.specs.declared.due.Due.TheVariants.{Member, Claim, Nothing}
 use Rattle.netfile.specs.Files.{run, number_at, claim_of, network_record, member_bytes, claim_record, members_to, claims_to, end_record, file_of}
-use Rattle.netfile.specs.Checks.{place_of}
+use Rattle.netfile.specs.Checks.{follows}
 use Rattle.netfile.specs.Reads.{due_after}
+use Rattle.netfile.proofs.Order.{place_of, place_follows}
 use Rattle.netfile.proofs.Bytes.{number_of_bytes}
 use Rattle.netfile.proofs.Clear.{network_clear, member_clear, claim_clear, end_clear}
 use Rattle.netfile.proofs.Entries.{entry}
@@ -23,17 +24,17 @@ same_as F k x = cond-true _ _ _ (eq-eqb k k refl)
 other_than : {X : Type 0} (F : ℕ → X) (k i : ℕ) (x : X) → (i ≡ k → ⊥) → written F k x i ≡ F i
 other_than F k i x ne = cond-false _ _ _ (ne_eqb i k ne)
 
--- the place behind the last claim below p
-abbrev pub seen : Figures → ℕ → ℕ
-seen f zero = 0
-seen f (suc p) = cond (eqb (claim_of f p) 0) (seen f p) (suc p)
+-- the last claim at a place below p
+abbrev pub seen : Figures → ℕ → Option (ℕ × ℕ)
+seen f zero = None
+seen f (suc p) = cond (eqb (claim_of f p) 0) (seen f p) (Some (p / 32, p % 32))
 
-seen_below : (f : Figures) (p : ℕ) → seen f p ≤ p
-seen_below f zero = omega arith
-seen_below f (suc p) =
+seen_before : (f : Figures) (p q : ℕ) → p ≤ q → follows (seen f p) (q / 32) (q % 32) ≡ true
+seen_before f zero q h = refl
+seen_before f (suc p) q h =
     ⊎_elim
-    (λ (e : claim_of f p ≡ 0). rw (eq-eqb (claim_of f p) 0 e) (omega (arith, seen_below f p)))
-    (λ (e : claim_of f p ≡ 0 → ⊥). rw (ne_eqb (claim_of f p) 0 e) (omega arith))
+    (λ (e : claim_of f p ≡ 0). rw (eq-eqb (claim_of f p) 0 e) (seen_before f p q (omega arith)))
+    (λ (e : claim_of f p ≡ 0 → ⊥). rw (ne_eqb (claim_of f p) 0 e) (place_follows p q (omega arith)))
     (cases_eq (claim_of f p) 0)
 
 -- the walk through s comes to a byte where d is due, and has read the first i members of f and its claims below place p
@@ -46,7 +47,7 @@ pub record At (s : List ℕ) (f : Figures) (d : Due) (byte i p : ℕ) : Type 0 w
   pub no_more : (q : ℕ) → p ≤ q → claims q ≡ 0
 
 abbrev member_due : ℕ → ℕ → Due
-member_due n k = cond (ltb k n) (Member k) (Claim 0)
+member_due n k = cond (ltb k n) (Member k) (Claim None)
 
 module _ (s : List ℕ) (f : Figures) where
   moved : {d d' : Due} {b b' i i' p p' : ℕ} → At s f d b i p → d ≡ d' → b ≡ b' → i ≡ i' → p ≡ p' → At s f d' b' i' p'
@@ -84,9 +85,10 @@ module _ (s : List ℕ) (f : Figures) where
       }
 
   at_claim :
-      (least q b : ℕ) (R : List ℕ) → least ≤ q → 0 < claim_of f q → drop b s ≡ claim_record (q / 32) (q % 32) (claim_of f q) ++ R →
-      At s f (Claim least) b f.n q → At s f (Claim (q + 1)) (b + 7) f.n (q + 1)
-  at_claim least q b R h some e at =
+      (last : Option (ℕ × ℕ)) (q b : ℕ) (R : List ℕ) → follows last (q / 32) (q % 32) ≡ true → 0 < claim_of f q →
+      drop b s ≡ claim_record (q / 32) (q % 32) (claim_of f q) ++ R →
+      At s f (Claim last) b f.n q → At s f (Claim (Some (q / 32, q % 32))) (b + 7) f.n (q + 1)
+  at_claim last q b R h some e at =
       let t = claim_record (q / 32) (q % 32) (claim_of f q) ++ R in
       let place : place_of t ≡ q = omega arith in
       let units : number_at t 3 ≡ claim_of f q = number_of_bytes (claim_of f q) (omega (arith, f.small (q / 32) (q % 32))) in
@@ -94,8 +96,7 @@ module _ (s : List ℕ) (f : Figures) where
       record {
         members = at.members;
         claims = new;
-        walked = subst (λ (z : ℕ). Walked f.n s (spot (Claim (z + 1)) (b + 7) at.members new)) place
-            (walk_on f.n s t _ at.walked e (claim_clear f least q b R h some));
+        walked = walk_on f.n s t _ at.walked e (claim_clear f last q b R h some);
         members_are = at.members_are;
         claims_are = λ r a. ⊎_elim
             (λ (z : r ≡ place_of t). ap new z ∙ (same_as at.claims (place_of t) _ ∙ (units ∙ ap (claim_of f) (sym (z ∙ place)))))
@@ -104,11 +105,11 @@ module _ (s : List ℕ) (f : Figures) where
         no_more = λ r a. other_than at.claims (place_of t) r _ (λ (z : r ≡ place_of t). omega arith) ∙ at.no_more r (omega arith);
       }
 
-  at_end : (least b i p : ℕ) (R : List ℕ) → drop b s ≡ end_record ++ R → At s f (Claim least) b i p → At s f Nothing (b + 1) i p
-  at_end least b i p R e at = record {
+  at_end : (last : Option (ℕ × ℕ)) (b i p : ℕ) (R : List ℕ) → drop b s ≡ end_record ++ R → At s f (Claim last) b i p → At s f Nothing (b + 1) i p
+  at_end last b i p R e at = record {
     members = at.members;
     claims = at.claims;
-    walked = walk_on f.n s (end_record ++ R) _ at.walked e (end_clear f.n least b R);
+    walked = walk_on f.n s (end_record ++ R) _ at.walked e (end_clear f.n last b R);
     members_are = at.members_are;
     claims_are = at.claims_are;
     no_more = at.no_more;
@@ -143,7 +144,7 @@ module _ (s : List ℕ) (f : Figures) where
       let Y = member_bytes f k in
       let more : members_to f (suc k) ≡ X ++ Y = ap (members_to f) (sym (add-one k)) ∙ members_more f k in
       let on = goes_on X Y R (e ∙ ap (λ z. z ++ R) more) in
-      let due = cond-true (ltb k f.n) (Member k) (Claim 0) (lt-ltb k f.n (omega arith)) in
+      let due = cond-true (ltb k f.n) (Member k) (Claim None) (lt-ltb k f.n (omega arith)) in
       let here = moved (at_members k (omega arith) (Y ++ R) on) due refl refl refl in
       let long : length X + 8 ≡ length (members_to f (suc k)) = sym (ap length more ∙ length-append X Y) in
       moved (at_member k (length X) R (omega arith) (stands_at X (Y ++ R) on) here) (ap (member_due f.n) (add-one k)) long (add-one k) refl
@@ -155,7 +156,7 @@ module _ (s : List ℕ) (f : Figures) where
   at_skip p z before R e =
       let same : claims_to f (suc p) ≡ claims_to f p = ap (claims_to f) (sym (add-one p)) ∙ claims_skip f p (omega arith) in
       let here = before R (e ∙ ap (λ z. z ++ R) same) in
-      let due = sym (cond-true (eqb (claim_of f p) 0) (seen f p) (suc p) (eq-eqb (claim_of f p) 0 z)) in
+      let due = sym (cond-true (eqb (claim_of f p) 0) (seen f p) (Some (p / 32, p % 32)) (eq-eqb (claim_of f p) 0 z)) in
       moved (at_none (Claim (seen f p)) (length (claims_to f p)) f.n p z here) (ap Claim due) (ap length (sym same)) refl refl
 
   at_more : (p : ℕ) → (claim_of f p ≡ 0 → ⊥) → Claimed p → Claimed (suc p)
@@ -165,8 +166,8 @@ module _ (s : List ℕ) (f : Figures) where
       let Y = claim_record (p / 32) (p % 32) (claim_of f p) in
       let more : claims_to f (suc p) ≡ X ++ Y = ap (claims_to f) (sym (add-one p)) ∙ claims_more f p some in
       let on = goes_on X Y R (e ∙ ap (λ z. z ++ R) more) in
-      let here = at_claim (seen f p) p (length X) R (seen_below f p) some (stands_at X (Y ++ R) on) (before (Y ++ R) on) in
-      let due = add-one p ∙ sym (cond-false (eqb (claim_of f p) 0) (seen f p) (suc p) (ne_eqb (claim_of f p) 0 z)) in
+      let here = at_claim (seen f p) p (length X) R (seen_before f p p (omega arith)) some (stands_at X (Y ++ R) on) (before (Y ++ R) on) in
+      let due = sym (cond-false (eqb (claim_of f p) 0) (seen f p) (Some (p / 32, p % 32)) (ne_eqb (claim_of f p) 0 z)) in
       let long : length X + 7 ≡ length (claims_to f (suc p)) = sym (ap length more ∙ length-append X Y) in
       moved here (ap Claim due) long refl (add-one p)
 
@@ -174,7 +175,7 @@ module _ (s : List ℕ) (f : Figures) where
   unfolding run
   at_claims zero = λ R e.
       let none : claims_to f 0 ≡ members_to f f.n = append-nil (members_to f f.n) in
-      let due = cond-false (ltb f.n f.n) (Member f.n) (Claim 0) (le-ltb f.n f.n (omega arith)) in
+      let due = cond-false (ltb f.n f.n) (Member f.n) (Claim None) (le-ltb f.n f.n (omega arith)) in
       moved (at_members f.n (omega arith) R (e ∙ ap (λ z. z ++ R) none)) due (ap length (sym none)) refl refl
   at_claims (suc p) = λ R e.
       ⊎_elim (λ z. at_skip p z (at_claims p) R e) (λ z. at_more p z (at_claims p) R e) (cases_eq (claim_of f p) 0)

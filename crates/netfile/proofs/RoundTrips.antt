@@ -1,17 +1,11 @@
--- The file in a buffer that was written, and a file that is written again.
-use Rattle.std.proofs.Common.{◌≡◌, ℕ, ◌-◌, List, ◌++◌, length, take, drop, Ok, Err, Result, sym, ap, ◌∙◌, inr, arith}
-use Rattle.std.proofs.lemmas.List.{take_at}
+-- A file that is written again.
+use Rattle.std.proofs.Common.{◌≡◌, ℕ, List, ◌++◌, length, drop, Ok, Err, Result, sym, ap, ◌∙◌, inr}
 use Rattle.network.specs.declared.fault.Fault.{Fault}
 use Rattle.network.specs.declared.figures.Figures.{Figures}
 use Rattle.network.specs.Answers.{Gives}
 use Rattle.netfile.specs.Files.{file_of}
 use Rattle.netfile.specs.Writes.{short_fault, Written}
 use Rattle.netfile.specs.RoundTrips.{Rewritten}
-
-pub in_buffer : (f : Figures) (count : ℕ) (before after : List ℕ) → Written f before count after → take (count - 0) after ≡ file_of f
-in_buffer f count before after w =
-    let k : count - 0 ≡ count = omega arith in
-    ap (λ n. take n after) k ∙ (ap (take count) w.bytes ∙ take_at (file_of f) _ count (sym w.ends))
 
 pub written_again :
     (f : Figures) (s before after : List ℕ) (r : Result ℕ Fault) → s ≡ file_of f →

@@ -1,20 +1,21 @@
 -- Reading one record carries the file so far on by that record.
-use Rattle.std.proofs.Common.{◌≡◌, ℕ, ◌+◌, ◌-◌, ◌/◌, ◌%◌, ◌<◌, ◌≤◌, true, false, cond, eqb, ltb, List, [], ◌∷◌, ◌++◌, length, get_or, take, drop, Some, None, sym, refl, ap, ◌∙◌, subst, inl, inr, ⊎_elim, arith, take-add}
+use Rattle.std.proofs.Common.{◌≡◌, ℕ, ◌+◌, ◌-◌, ◌/◌, ◌%◌, ◌<◌, ◌≤◌, true, false, cond, eqb, ltb, List, [], ◌∷◌, ◌++◌, length, get_or, take, drop, Some, None, Option, sym, refl, ap, ◌∙◌, subst, inl, inr, ⊎_elim, arith, take-add}
 use Rattle.std.proofs.lemmas.List.{append-nil, length-drop, get_or-drop}
 use Rattle.std.proofs.lemmas.Bool.{ltb-true, ltb-false, eq-eqb, ne_eqb, cases_Bool, cond-true, cond-false}
 use Rattle.network.specs.declared.fault.Cause.TheVariants.{EndOfFile}
 use Rattle.network.specs.declared.figures.Figures.{Figures}
 use Rattle.network.specs.Limits.{nobody}
-use Rattle.network.specs.Entries.{MemberSet, ClaimSet}
+use Rattle.network.specs.Entries.{claim_at, MemberSet, ClaimSet}
 use Rattle.netfile.specs.declared.due.Due.{Due}
 use Rattle.netfile.specs.declared.due.Due.TheVariants.{Network, Member, Claim, Nothing}
 use Rattle.netfile.specs.Records.{file_fault, kind, body_length, record_length}
-use Rattle.netfile.specs.Files.{run, number_at, claim_of, network_record, member_record, member_bytes, claim_bytes, claim_record, members_to, claims_to, end_record, file_of}
-use Rattle.netfile.specs.Checks.{place_of, due_fault}
+use Rattle.netfile.specs.Files.{run, number_at, claim_of, network_record, member_record, member_bytes, claim_bytes, place_after, claim_record, members_to, claims_to, end_record, file_of}
+use Rattle.netfile.specs.Checks.{due_fault}
 use Rattle.netfile.specs.Reads.{due_after, Entered}
-use Rattle.netfile.specs.Loads.{Begins}
+use Rattle.netfile.specs.Loads.{LastClaim, Begins}
+use Rattle.netfile.proofs.Order.{place_of, last_within, follows_place}
 use Rattle.netfile.proofs.Bytes.{Bytes, bytes_at, take_each}
-use Rattle.netfile.proofs.Entries.{entry, member_entered, member_kept, claims_kept, place_divides, claim_entered, claim_kept}
+use Rattle.netfile.proofs.Entries.{entry, at_place, member_entered, member_kept, claims_kept, place_divides, claim_entered, claim_kept}
 use Rattle.netfile.proofs.Files.{claim_none, members_more, claims_more}
 use Rattle.netfile.proofs.Passing.{network_passes, member_passes, claim_passes, lies}
 use Rattle.netfile.proofs.Runs.{run_same, run_idle}
@@ -52,15 +53,18 @@ end_first t kd some = ap (λ k. take (1 + body_length k) t) kd ∙ (take_each t 
 abbrev pub ahead_of : Due → ℕ
 ahead_of Network = 0
 ahead_of (Member member) = 0
-ahead_of (Claim least) = least
+ahead_of (Claim last) = place_after last
 ahead_of Nothing = 1024
 
-abbrev pub Ahead : Figures → Due → Type 0
-Ahead f due = (q : ℕ) → ahead_of due ≤ q → q < 1024 → claim_of f q ≡ 0
+abbrev pub Bare : Figures → ℕ → Type 0
+Bare f p = (q : ℕ) → p ≤ q → q < 1024 → claim_of f q ≡ 0
 
-idle : (f : Figures) (p q : ℕ) → p ≤ q → q ≤ 1024 → Ahead f (Claim p) → claims_to f q ≡ claims_to f p
+abbrev pub Ahead : Figures → Due → Type 0
+Ahead f due = Bare f (ahead_of due)
+
+idle : (f : Figures) (p q : ℕ) → p ≤ q → q ≤ 1024 → Bare f p → claims_to f q ≡ claims_to f p
 idle f p q h most ahead =
-    let none : (i : ℕ) → p ≤ i → i < q → claim_bytes f i ≡ [] = λ i a b. claim_none f i (omega (arith, ahead i a (omega arith))) in
+    let none : (i : ℕ) → p ≤ i → i < q → claim_bytes f i ≡ [] = λ i a b. claim_none _ _ (claim_of f i) (omega (arith, ahead i a (omega arith))) in
     ap (λ r. members_to f f.n ++ r) (run_idle (claim_bytes f) p q h none)
 
 member_step :
@@ -85,17 +89,17 @@ claims_before f g q n m same =
     let claims = run_same (claim_bytes g) (claim_bytes f) 0 q (λ r a b. ap (bytes r) (same r (omega arith))) in
     cc
 
-record ClaimStep (f g : Figures) (least : ℕ) (t : List ℕ) : Type 0 where
-  bytes : claims_to f least ++ first t ≡ claims_to g (place_of t + 1)
-  most : place_of t + 1 ≤ 1024
-  units : 0 < claim_of g (place_of t)
-  ahead : Ahead g (Claim (place_of t + 1))
+record ClaimStep (f g : Figures) (last : Option (ℕ × ℕ)) (t : List ℕ) : Type 0 where
+  bytes : claims_to f (place_after last) ++ first t ≡ claims_to g (place_of t + 1)
+  units : 0 < claim_at g (get_or t 1 0) (get_or t 2 0)
+  ahead : Bare g (place_of t + 1)
 
 claim_step :
-    (f g : Figures) (least byte : ℕ) (t : List ℕ) → Bytes t → Ahead f (Claim least) → due_fault f.n (Claim least) byte t ≡ None →
-    kind t ≡ 3 → ClaimSet f (get_or t 1 0) (get_or t 2 0) (number_at t 3) g → ClaimStep f g least t
-claim_step f g least byte t bytes ahead ok kd s =
-    let p = claim_passes f.n least byte t ok kd in
+    (f g : Figures) (last : Option (ℕ × ℕ)) (byte : ℕ) (t : List ℕ) → Bytes t → LastClaim f last → Ahead f (Claim last) →
+    due_fault f.n (Claim last) byte t ≡ None → kind t ≡ 3 → ClaimSet f (get_or t 1 0) (get_or t 2 0) (number_at t 3) g → ClaimStep f g last t
+claim_step f g last byte t bytes stood ahead ok kd s =
+    let p = claim_passes f.n last byte t ok kd in
+    let rising = follows_place f last _ _ stood (omega (arith, p.creditor, f.few)) p.rising in
     let q = place_of t in
     let most : q < 1024 = omega (arith, p.debtor, p.creditor, f.few) in
     let mine = claim_entered f g _ _ _ q p.debtor p.creditor refl s in
@@ -107,12 +111,11 @@ claim_step f g least byte t bytes ahead ok kd s =
     let some : 0 < claim_of g q = omega (arith, mine, p.units) in
     let more = claims_more g q some in
     let before = claims_before f g q s.count s.members (λ r h. kept r (λ (e : r ≡ q). omega arith)) in
-    let skipped = idle f least q p.rising (omega arith) ahead in
+    let skipped = idle f (place_after last) q rising (omega arith) ahead in
     record {
       bytes = cc;
-      most = omega arith;
-      units = some;
-      ahead = λ r a b. kept r (λ (e : r ≡ q). omega arith) ∙ ahead r (omega (arith, p.rising)) b;
+      units = subst (λ x. 0 < x) (at_place g q _ _ i j) some;
+      ahead = λ r a b. kept r (λ (e : r ≡ q). omega arith) ∙ ahead r (omega (arith, rising)) b;
     }
 
 -- what stands after a record is read
@@ -136,43 +139,41 @@ module _ (f : Figures) (byte : ℕ) (bs t : List ℕ) (bytes : Bytes t) (some : 
       let none : (q : ℕ) → 0 ≤ q → q < 1024 → claim_of g q ≡ 0 = λ q a b. claims_kept f g k _ _ _ s q ∙ ahead q a b in
       let P : Due → Type 0 = λ d. Stands f.n g d (bs ++ first t) in
       let further : k + 1 < f.n → P (Member (k + 1)) = λ h. (s.count, (omega (arith, s.count), e), none) in
-      let all : k + 1 ≡ g.n → P (Claim 0) = λ h.
-      (s.count, (omega arith, inl refl, e ∙ (ap (members_to g) h ∙ sym (append-nil (members_to g g.n)))), none) in
+      let all : k + 1 ≡ g.n → P (Claim None) = λ h.
+      (s.count, (tt, e ∙ (ap (members_to g) h ∙ sym (append-nil (members_to g g.n)))), none) in
       ⊎_elim
       (λ (y : ltb (k + 1) f.n ≡ true). subst P (sym (cond-true _ _ _ y)) (further (ltb-true (k + 1) f.n y)))
       (λ (y : ltb (k + 1) f.n ≡ false). subst P (sym (cond-false _ _ _ y)) (all (omega (arith, ltb-false (k + 1) f.n y, s.count, so.0))))
       (cases_Bool (ltb (k + 1) f.n))
 
-  end_read : (least : ℕ) → Begins f (Claim least) bs → Ahead f (Claim least) → kind t ≡ 4 → Stands f.n f Nothing (bs ++ first t)
+  end_read : (last : Option (ℕ × ℕ)) → Begins f (Claim last) bs → Ahead f (Claim last) → kind t ≡ 4 → Stands f.n f Nothing (bs ++ first t)
   unfolding file_of
-  end_read least so ahead kd =
-      let e = on so.2 in
+  end_read last so ahead kd =
+      let e = on so.1 in
       let rec = end_first t kd some in
-      let skipped = idle f least 1024 so.0 (omega arith) ahead in
+      let skipped = idle f (place_after last) 1024 (last_within f last so.0) (omega arith) ahead in
       (refl, cc, λ q a b. absurd (omega arith))
 
   claim_read :
-      (g : Figures) (least : ℕ) → Begins f (Claim least) bs → Ahead f (Claim least) → due_fault f.n (Claim least) byte t ≡ None →
-      kind t ≡ 3 → ClaimSet f (get_or t 1 0) (get_or t 2 0) (number_at t 3) g → Stands f.n g (Claim (place_of t + 1)) (bs ++ first t)
-  claim_read g least so ahead ok kd s =
-      let c = claim_step f g least byte t bytes ahead ok kd s in
-      let back : place_of t ≡ (place_of t + 1) - 1 = omega arith in
-      let last = inr (subst (λ z. 0 < claim_of g z) back c.units) in
-      (s.count, (c.most, last, on so.2 ∙ c.bytes), c.ahead)
+      (g : Figures) (last : Option (ℕ × ℕ)) → Begins f (Claim last) bs → Ahead f (Claim last) → due_fault f.n (Claim last) byte t ≡ None →
+      kind t ≡ 3 → ClaimSet f (get_or t 1 0) (get_or t 2 0) (number_at t 3) g → Stands f.n g (Claim (Some (get_or t 1 0, get_or t 2 0))) (bs ++ first t)
+  claim_read g last so ahead ok kd s =
+      let c = claim_step f g last byte t bytes so.0 ahead ok kd s in
+      (s.count, (c.units, on so.1 ∙ c.bytes), c.ahead)
 
   step :
       (g : Figures) (due : Due) → Begins f due bs → Ahead f due → due_fault f.n due byte t ≡ None → Entered f due t g →
       Stands f.n g (due_after f.n due t) (bs ++ first t)
   step g Network so ahead ok same = subst (λ h. Stands f.n h (Member 0) (bs ++ first t)) (sym same) (network_read so ahead ok)
   step g (Member k) so ahead ok s = member_read g k so ahead ok s
-  step g (Claim least) so ahead ok (inl r) =
-      let due = cond-true (eqb (kind t) 4) Nothing (Claim (place_of t + 1)) (eq-eqb (kind t) 4 r.0) in
+  step g (Claim last) so ahead ok (inl r) =
+      let due = cond-true (eqb (kind t) 4) Nothing (Claim (Some (get_or t 1 0, get_or t 2 0))) (eq-eqb (kind t) 4 r.0) in
       let P : Due → Type 0 = λ d. Stands f.n g d (bs ++ first t) in
-      subst P (sym due) (subst (λ h. Stands f.n h Nothing (bs ++ first t)) (sym r.1) (end_read least so ahead r.0))
-  step g (Claim least) so ahead ok (inr r) =
-      let due = cond-false (eqb (kind t) 4) Nothing (Claim (place_of t + 1)) (ne_eqb (kind t) 4 (λ (e : kind t ≡ 4). omega (arith, r.0))) in
+      subst P (sym due) (subst (λ h. Stands f.n h Nothing (bs ++ first t)) (sym r.1) (end_read last so ahead r.0))
+  step g (Claim last) so ahead ok (inr r) =
+      let due = cond-false (eqb (kind t) 4) Nothing (Claim (Some (get_or t 1 0, get_or t 2 0))) (ne_eqb (kind t) 4 (λ (e : kind t ≡ 4). omega (arith, r.0))) in
       let P : Due → Type 0 = λ d. Stands f.n g d (bs ++ first t) in
-      subst P (sym due) (claim_read g least so ahead ok r.0 r.1)
+      subst P (sym due) (claim_read g last so ahead ok r.0 r.1)
   step g Nothing so ahead ok r = absurd r
 
 -- one turn of the load

@@ -1,5 +1,5 @@
 -- A byte string has one fault or is the file of one network.
-use Rattle.std.proofs.Common.{◌≡◌, ℕ, zero, suc, ◌+◌, ◌-◌, ◌*◌, ◌/◌, ◌%◌, ◌<◌, ◌≤◌, ◌⊎◌, List, [], ◌++◌, length, get_or, take, drop, Some, None, Ok, Err, Result, sym, refl, ap, ◌∙◌, subst, inl, inr, ⊎_elim, arith}
+use Rattle.std.proofs.Common.{◌≡◌, ℕ, ◌+◌, ◌*◌, ◌/◌, ◌%◌, ◌<◌, ◌≤◌, false, eqb, List, [], ◌++◌, length, get_or, take, drop, Some, None, Ok, Err, Option, Result, sym, refl, ap, ◌∙◌, subst, ⊎_elim, add-one, arith}
 use Rattle.std.proofs.lemmas.List.{append-nil, take-append-drop, length-take-le, drop_all, ext_get_or}
 use Rattle.std.proofs.lemmas.Bool.{cases_lt, lt-ltb, ne_eqb, cond-true, cond-false}
 use Rattle.network.specs.declared.fault.Fault.{Fault}
@@ -7,12 +7,14 @@ use Rattle.network.specs.declared.draft.Draft.{Draft}
 use Rattle.network.specs.declared.figures.Figures.{Figures}
 use Rattle.network.specs.declared.figures.Member.{Member as Entry}
 use Rattle.network.specs.Limits.{nobody}
-use Rattle.network.specs.Entries.{member_at}
+use Rattle.network.specs.Entries.{member_at, claim_at}
 use Rattle.network.proofs.Equal.{equal_figures}
 use Rattle.netfile.specs.declared.due.Due.{Due}
 use Rattle.netfile.specs.declared.due.Due.TheVariants.{Network, Member, Claim, Nothing}
-use Rattle.netfile.specs.Files.{claim_of, file_of}
-use Rattle.netfile.specs.Loads.{Begins, FaultOf, Loaded, Accepts, Only}
+use Rattle.netfile.specs.Files.{claim_of, place_after, file_of}
+use Rattle.netfile.specs.Loads.{LastClaim, Begins, FaultOf, Loaded, Accepts, Only}
+use Rattle.netfile.proofs.Entries.{at_place}
+use Rattle.netfile.proofs.Order.{claim_members}
 use Rattle.netfile.proofs.Walks.{Spot, spot, fault_at, Walked, walk_starts, Stop, one_stop, fault_stops, end_stops}
 use Rattle.netfile.proofs.Reaches.{seen, At, at_members, at_claims, at_nothing}
 
@@ -27,13 +29,23 @@ comes n s f d d' b b' i p m e g at =
     let here : Comes f.n s d b = record { members = at.members; claims = at.claims; walked = at.walked } in
     subst (λ z. Comes n s z b') e (subst (Comes n s d) g (subst (λ z. Comes z s d b) m here))
 
-seen_at : (f : Figures) (p : ℕ) → (p ≡ 0) ⊎ (0 < claim_of f (p - 1)) → seen f p ≡ p
-seen_at f zero h = refl
-seen_at f (suc p) (inl e) = absurd (omega arith)
-seen_at f (suc p) (inr h) =
-    let e : suc p - 1 ≡ p = omega arith in
-    let some : 0 < claim_of f p = subst (λ z. 0 < claim_of f z) e h in
-    cond-false _ _ _ (ne_eqb (claim_of f p) 0 (λ (z : claim_of f p ≡ 0). omega arith))
+seen_more : (f : Figures) (p : ℕ) → 0 < claim_of f p → seen f (p + 1) ≡ Some (p / 32, p % 32)
+seen_more f p some =
+    let here : eqb (claim_of f p) 0 ≡ false = ne_eqb (claim_of f p) 0 (λ (z : claim_of f p ≡ 0). omega arith) in
+    ap (seen f) (add-one p) ∙ cond-false _ (seen f p) _ here
+
+some_pair : (a b : ℕ) (pair : ℕ × ℕ) → a ≡ pair.0 → b ≡ pair.1 → Some (a, b) ≡ Some pair
+some_pair a b pair h k = ap (λ (x : ℕ). Some (x, b)) h ∙ ap (λ (y : ℕ). Some (pair.0, y)) k
+
+seen_at : (f : Figures) (last : Option (ℕ × ℕ)) → LastClaim f last → seen f (place_after last) ≡ last
+seen_at f None h = refl
+seen_at f (Some last) h =
+    let m = claim_members f last.0 last.1 h in
+    let p = 32 * last.0 + last.1 in
+    let i : p / 32 ≡ last.0 = omega (arith, m.1, f.few) in
+    let j : p % 32 ≡ last.1 = omega (arith, m.1, f.few) in
+    let there : claim_of f p ≡ claim_at f last.0 last.1 = at_place f p last.0 last.1 i j in
+    seen_more f p (omega (arith, there, h)) ∙ some_pair (p / 32) (p % 32) last i j
 
 -- through a file so far the walk comes to what is due behind it
 module _ (n : ℕ) (s : List ℕ) (f : Figures) (b : ℕ) (count : f.n ≡ n) (within : b ≤ length s) where
@@ -48,9 +60,9 @@ module _ (n : ℕ) (s : List ℕ) (f : Figures) (b : ℕ) (count : f.n ≡ n) (w
   begins_comes (Member k) e =
       let at = at_members s f k (omega (arith, e.0)) (drop b s) (whole _ e.1) in
       comes n s f _ (Member k) _ b k 0 count (cond-true _ _ _ (lt-ltb k f.n e.0)) (ends _ e.1) at
-  begins_comes (Claim least) e =
-      let at = at_claims s f least (drop b s) (whole _ e.2) in
-      comes n s f _ (Claim least) _ b f.n least count (ap Claim (seen_at f least e.1)) (ends _ e.2) at
+  begins_comes (Claim last) e =
+      let at = at_claims s f (place_after last) (drop b s) (whole _ e.1) in
+      comes n s f _ (Claim last) _ b f.n (place_after last) count (ap Claim (seen_at f last e.0)) (ends _ e.1) at
   begins_comes Nothing e = comes n s f Nothing Nothing _ b f.n 1024 count refl (ends _ e) (at_nothing s f (drop b s) (whole _ e))
 
 fault_stop : (n : ℕ) (s : List ℕ) (e : Fault) → FaultOf n s e → (a : Stop n s) × (fault_at n s a.at ≡ Some e)

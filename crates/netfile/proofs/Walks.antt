@@ -8,8 +8,9 @@ use Rattle.netfile.specs.declared.due.Due.{Due}
 use Rattle.netfile.specs.declared.due.Due.TheVariants.{Network, Member, Claim, Nothing}
 use Rattle.netfile.specs.Records.{kind, record_length}
 use Rattle.netfile.specs.Files.{number_at}
-use Rattle.netfile.specs.Checks.{place_of, due_fault}
+use Rattle.netfile.specs.Checks.{due_fault}
 use Rattle.netfile.specs.Reads.{due_after}
+use Rattle.netfile.proofs.Order.{place_of}
 use Rattle.netfile.proofs.Entries.{entry}
 
 -- what is due, at which byte, and the entries that were read before it
@@ -27,11 +28,11 @@ written F k x i = cond (eqb i k) x (F i)
 abbrev pub members_with : Due → List ℕ → (ℕ → Entry) → ℕ → Entry
 members_with (Member k) t F = written F k (entry (get_or t 2 0) (get_or t 3 0) (number_at t 4))
 members_with Network t F = F
-members_with (Claim least) t F = F
+members_with (Claim last) t F = F
 members_with Nothing t F = F
 
 abbrev pub claims_with : Due → List ℕ → (ℕ → ℕ) → ℕ → ℕ
-claims_with (Claim least) t F = cond (eqb (kind t) 4) F (written F (place_of t) (number_at t 3))
+claims_with (Claim last) t F = cond (eqb (kind t) 4) F (written F (place_of t) (number_at t 3))
 claims_with Network t F = F
 claims_with (Member k) t F = F
 claims_with Nothing t F = F
@@ -39,7 +40,7 @@ claims_with Nothing t F = F
 abbrev pub byte_after : Due → ℕ → List ℕ → ℕ
 byte_after Network byte t = byte + record_length t
 byte_after (Member k) byte t = byte + record_length t
-byte_after (Claim least) byte t = byte + record_length t
+byte_after (Claim last) byte t = byte + record_length t
 byte_after Nothing byte t = byte
 
 abbrev pub spot : Due → ℕ → (ℕ → Entry) → (ℕ → ℕ) → Spot

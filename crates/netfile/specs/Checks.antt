@@ -1,5 +1,5 @@
 -- The checks of a record at its place in a network file that is loaded.
-use Rattle.std.specs.Prelude.{ℕ, ◌+◌, ◌*◌, cond, not, ◌||◌, List, length, Some, None, Ok, Err, Option, Result, ◌==◌, nat_lt, slice_index}
+use Rattle.std.specs.Prelude.{ℕ, Bool, true, cond, not, ◌||◌, ◌&&◌, List, length, Some, None, Option, ◌==◌, nat_lt, slice_index}
 use Rattle.network.specs.declared.fault.Fault.{Fault}
 use Rattle.network.specs.declared.fault.Cause.TheVariants.{NotDue, ClaimOrder}
 use Rattle.network.specs.Faults.{at_byte}
@@ -9,19 +9,15 @@ use Rattle.netfile.specs.declared.due.Due.TheVariants.{Network, Member, Claim, N
 use Rattle.netfile.specs.Records.{file_fault, kind, record_fault}
 use Rattle.netfile.specs.Files.{number_at}
 
--- the draft's answer to an entry, whose fault gains the byte
-abbrev pub met_at : ℕ → Result (Unit {0}) Fault → Result (Unit {0}) Fault
-met_at byte (Ok x) = Ok x
-met_at byte (Err e) = Err (at_byte byte e)
-
 -- the draft's fault, which gains the byte, or else the next check
 abbrev pub draft_or : ℕ → Option Fault → Option Fault → Option Fault
 draft_or byte (Some e) next = Some (at_byte byte e)
 draft_or byte None next = next
 
--- the place of the claim whose record t begins with
-abbrev pub place_of : List ℕ → ℕ
-place_of t = 32 * slice_index t 1 + slice_index t 2
+-- whether the claim of j on i is behind the last one: on a later debtor, or of a later creditor on the same
+abbrev pub follows : Option (ℕ × ℕ) → ℕ → ℕ → Bool
+follows None i j = true
+follows (Some last) i j = nat_lt last.0 i || (last.0 == i && nat_lt last.1 j)
 
 -- the first check that fails where t stands at that byte, d is due and the draft has n members
 abbrev pub due_fault : ℕ → Due → ℕ → List ℕ → Option Fault
@@ -33,10 +29,10 @@ due_fault n (Member member) byte t =
     (cond (not (slice_index t 1 == member)) (Some (file_fault NotDue byte))
     (draft_or byte (member_fault n member (slice_index t 3) (number_at t 4))
     None))
-due_fault n (Claim least) byte t =
+due_fault n (Claim last) byte t =
     record_fault 3 4 byte t
     (cond (kind t == 4) None
     (draft_or byte (claim_fault n (slice_index t 1) (slice_index t 2) (number_at t 3))
-    (cond (number_at t 3 == 0 || nat_lt (place_of t) least) (Some (file_fault ClaimOrder byte))
+    (cond (number_at t 3 == 0 || not (follows last (slice_index t 1) (slice_index t 2))) (Some (file_fault ClaimOrder byte))
     None)))
 due_fault n Nothing byte t = cond (length t == 0) None (Some (file_fault NotDue byte))

@@ -1,5 +1,5 @@
 -- The network file: which bytes are the file of a network.
-use Rattle.std.specs.Prelude.{ℕ, zero, suc, ◌+◌, ◌*◌, ◌/◌, ◌%◌, cond, List, [], ◌∷◌, ◌++◌, ◌==◌, slice_index}
+use Rattle.std.specs.Prelude.{ℕ, zero, suc, ◌+◌, ◌*◌, ◌/◌, ◌%◌, cond, List, [], ◌∷◌, ◌++◌, Some, None, Option, ◌==◌, slice_index}
 use Rattle.network.specs.declared.figures.Figures.{Figures}
 use Rattle.network.specs.declared.figures.Member.{Member}
 use Rattle.network.specs.Entries.{member_at, claim_at}
@@ -36,11 +36,26 @@ abbrev pub claim_of : Figures → ℕ → ℕ
 claim_of f place = claim_at f (place / 32) (place % 32)
 
 -- a claim of 0 has no record
+abbrev pub units_bytes : ℕ → ℕ → ℕ → List ℕ
+units_bytes debtor creditor units = cond (units == 0) [] (claim_record debtor creditor units)
+
 abbrev pub claim_bytes : Figures → ℕ → List ℕ
-claim_bytes f place = cond (claim_of f place == 0) [] (claim_record (place / 32) (place % 32) (claim_of f place))
+claim_bytes f place = units_bytes (place / 32) (place % 32) (claim_of f place)
+
+-- the place behind the last claim
+abbrev pub place_after : Option (ℕ × ℕ) → ℕ
+place_after None = 0
+place_after (Some last) = 32 * last.0 + last.1 + 1
 
 abbrev pub members_of : Figures → List ℕ
 members_of f = run (member_bytes f) 0 f.n
+
+-- the records of the claims on one debtor, whose row is given
+abbrev pub row_bytes : ℕ → List ℕ → ℕ → List ℕ
+row_bytes debtor row creditor = units_bytes debtor creditor (slice_index row creditor)
+
+abbrev pub row_of : ℕ → List ℕ → List ℕ
+row_of debtor row = run (row_bytes debtor row) 0 32
 
 abbrev pub claims_of : Figures → List ℕ
 claims_of f = run (claim_bytes f) 0 1024

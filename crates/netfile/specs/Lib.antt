@@ -1,4 +1,5 @@
 pub mod Records
+pub mod Kinds
 pub mod Files
 pub mod Checks
 pub mod Reads

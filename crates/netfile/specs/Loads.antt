@@ -1,19 +1,25 @@
 -- Which byte strings a load accepts, and the fault of each that it refuses.
-use Rattle.std.specs.Prelude.{◌≡◌, ℕ, ◌-◌, ◌<◌, ◌≤◌, ◌⊎◌, List, [], length, take, drop, Some, Ok, Err, Result}
+use Rattle.std.specs.Prelude.{◌≡◌, ℕ, ◌<◌, ◌≤◌, List, [], length, take, drop, Some, None, Ok, Err, Option, Result}
 use Rattle.network.specs.declared.fault.Fault.{Fault}
 use Rattle.network.specs.declared.draft.Draft.{Draft}
 use Rattle.network.specs.declared.figures.Figures.{Figures}
+use Rattle.network.specs.Entries.{claim_at}
 use Rattle.netfile.specs.declared.due.Due.{Due}
 use Rattle.netfile.specs.declared.due.Due.TheVariants.{Network, Member, Claim, Nothing}
-use Rattle.netfile.specs.Files.{claim_of, members_to, claims_to, file_of}
+use Rattle.netfile.specs.Files.{place_after, members_to, claims_to, file_of}
 use Rattle.netfile.specs.Checks.{due_fault}
 
--- bs is the file of f as far as d, which is due behind it; where claims are due from a place on that is
--- not the first, a claim stands right before it
+-- the last claim, if there is one, is above 0
+abbrev pub LastClaim : Figures → Option (ℕ × ℕ) → Type 0
+LastClaim f None = Unit {0}
+LastClaim f (Some last) = 0 < claim_at f last.0 last.1
+
+-- bs is the file of f as far as d, which is due behind it; where claims are due behind a last one, bs ends
+-- with that claim
 abbrev pub Begins : Figures → Due → List ℕ → Type 0
 Begins f Network bs = bs ≡ []
 Begins f (Member member) bs = (member < f.n) × (bs ≡ members_to f member)
-Begins f (Claim least) bs = (least ≤ 1024) × ((least ≡ 0) ⊎ (0 < claim_of f (least - 1))) × (bs ≡ claims_to f least)
+Begins f (Claim last) bs = LastClaim f last × (bs ≡ claims_to f (place_after last))
 Begins f Nothing bs = bs ≡ file_of f
 
 -- e is the fault of s in a load into a draft of n members: before some byte s is the file of a network

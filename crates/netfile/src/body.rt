@@ -2,7 +2,7 @@
 ghost use Rattle.std.specs.Prelude.{◌≡◌, length, slice_index};
 ghost use Rattle.netfile.specs.Files.{number_at, member_record, claim_record};
 
-use crate::record::{CLAIM, MEMBER};
+use crate::kind::Kind;
 use network::Member;
 
 // The member's number and its entry.
@@ -39,12 +39,21 @@ pub(crate) fn member_record(member: u8, entry: Member) -> [u8; 8]
     ensures { result ≡ member_record member entry }
 {
     let [a, b, c, d] = entry.endowment.to_be_bytes();
-    [MEMBER, member, entry.house, entry.class, a, b, c, d]
+    [
+        Kind::Member as u8,
+        member,
+        entry.house,
+        entry.class,
+        a,
+        b,
+        c,
+        d,
+    ]
 }
 
 pub(crate) fn claim_record(debtor: u8, creditor: u8, units: u32) -> [u8; 7]
     ensures { result ≡ claim_record debtor creditor units }
 {
     let [a, b, c, d] = units.to_be_bytes();
-    [CLAIM, debtor, creditor, a, b, c, d]
+    [Kind::Claim as u8, debtor, creditor, a, b, c, d]
 }

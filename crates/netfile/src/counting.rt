@@ -4,14 +4,15 @@ ghost use Rattle.network.specs.Answers.{Gives};
 ghost use Rattle.netfile.specs.Records.{counted_fault};
 
 use crate::fault::file_fault;
-use crate::record::{NETWORK, Record, first_record};
+use crate::kind::Kind;
+use crate::record::{Record, first_record};
 use network::{Cause, Fault, MemberCount};
 
 // Counts the members by the Network record alone.
 pub fn count(file: &[u8]) -> Result<MemberCount, Fault>
     ensures { Gives (counted_fault file.now) (λ count. count.n ≡ slice_index file.now 1) (Unit {0}) result }
 {
-    let Record::Network(body) = first_record(file, 0, NETWORK, NETWORK)? else {
+    let Record::Network(body) = first_record(file, 0, Kind::Network, Kind::Network)? else {
         return Err(file_fault(Cause::NotDue, 0));
     };
     MemberCount::new(body[0])

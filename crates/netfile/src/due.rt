@@ -5,9 +5,8 @@ pub(crate) enum Due {
     Network,
     // the Member record of this member
     Member(u8),
-    // a Claim record at this place or a later one, or the End record; a claim's place is 32 times
-    // its debtor plus its creditor
-    Claim(usize),
+    // a Claim record behind the last one, whose debtor and creditor stand here, or the End record
+    Claim(Option<(u8, u8)>),
     // no further byte
     Nothing,
 }

@@ -5,6 +5,7 @@ mod body;
 mod counting;
 mod due;
 mod fault;
+mod kind;
 mod loading;
 mod reading;
 mod record;
@@ -12,7 +13,8 @@ mod trips;
 mod writing;
 
 pub use counting::count;
+pub use kind::BODY_LENGTHS;
 pub use loading::load;
-pub use record::{BODY_LENGTHS, Record, record_at, rest_after};
+pub use record::{Record, record_at, rest_after};
 pub use trips::{copy, rewrite};
 pub use writing::{file_length, write};

@@ -3,8 +3,8 @@ ghost use Rattle.netfile.specs.Loads.{Loaded, Accepts, Only};
 
 use crate::due::Due;
 use crate::fault::file_fault;
+use crate::kind::BODY_LENGTHS;
 use crate::reading::read;
-use crate::record::{BODY_LENGTHS, rest_from};
 use network::{Cause, Draft, Fault};
 
 // Sets every entry of a draft from the file of a network of as many members. The whole file is checked
@@ -17,10 +17,9 @@ pub fn load(draft: &mut Draft, file: &[u8]) -> Result<(), Fault>
     let mut next = Draft::new(draft.count());
     let mut due = Due::Network;
     let mut byte = 0;
-    while byte < file.len() {
-        let rest = rest_from(file, byte);
-        due = read(&mut next, rest, byte, due)?;
-        byte += 1 + BODY_LENGTHS[rest[0] as usize];
+    while let Some(number) = file.get(byte) {
+        due = read(&mut next, &file[byte..], byte, due)?;
+        byte += 1 + BODY_LENGTHS[*number as usize];
     }
     let Due::Nothing = due else {
         return Err(file_fault(Cause::EndOfFile, byte));

@@ -1,12 +1,14 @@
 // Reading one record of a network file into a draft.
-ghost use Rattle.std.specs.Prelude.{◌<◌, length};
+ghost use Rattle.std.specs.Prelude.{◌≡◌, ◌<◌, length};
+ghost use Rattle.netfile.specs.Checks.{follows};
 ghost use Rattle.netfile.specs.Reads.{Reads};
 
 use crate::body::{claim_in, member_in};
 use crate::due::Due;
-use crate::fault::{file_fault, met_at};
-use crate::record::{CLAIM, END, MEMBER, NETWORK, Record, first_record};
-use network::{Cause, Draft, Fault, MEMBERS};
+use crate::fault::file_fault;
+use crate::kind::Kind;
+use crate::record::{Record, first_record};
+use network::{Cause, Draft, Fault};
 
 // Reads the record that `rest`, which stands at `byte`, begins with; answers what is due behind it.
 pub(crate) fn read(draft: &mut Draft, rest: &[u8], byte: usize, due: Due) -> Result<Due, Fault>
@@ -16,7 +18,7 @@ pub(crate) fn read(draft: &mut Draft, rest: &[u8], byte: usize, due: Due) -> Res
     match due {
         Due::Network => read_network(draft, rest, byte),
         Due::Member(member) => read_member(draft, rest, byte, member),
-        Due::Claim(least) => read_claim(draft, rest, byte, least),
+        Due::Claim(last) => read_claim(draft, rest, byte, last),
         Due::Nothing => Err(file_fault(Cause::NotDue, byte)),
     }
 }
@@ -24,7 +26,7 @@ pub(crate) fn read(draft: &mut Draft, rest: &[u8], byte: usize, due: Due) -> Res
 fn read_network(draft: &Draft, rest: &[u8], byte: usize) -> Result<Due, Fault>
     ensures { Reads draft.now.figures Due.Network byte rest.now result draft.now.figures }
 {
-    let Record::Network(body) = first_record(rest, byte, NETWORK, NETWORK)? else {
+    let Record::Network(body) = first_record(rest, byte, Kind::Network, Kind::Network)? else {
         return Err(file_fault(Cause::NotDue, byte));
     };
     if body[0] != draft.count().get() {
@@ -36,34 +38,48 @@ fn read_network(draft: &Draft, rest: &[u8], byte: usize) -> Result<Due, Fault>
 fn read_member(draft: &mut Draft, rest: &[u8], byte: usize, member: u8) -> Result<Due, Fault>
     ensures { Reads draft.old.figures (Due.Member member) byte rest.now result draft.new.figures }
 {
-    let Record::Member(body) = first_record(rest, byte, MEMBER, MEMBER)? else {
+    let Record::Member(body) = first_record(rest, byte, Kind::Member, Kind::Member)? else {
         return Err(file_fault(Cause::NotDue, byte));
     };
     let (number, entry) = member_in(body);
     if number != member {
         return Err(file_fault(Cause::NotDue, byte));
     }
-    let entered = draft.enter_member(member, entry);
-    met_at(byte, entered)?;
+    draft
+        .enter_member(member, entry)
+        .map_err(|fault| fault.at_byte(byte))?;
     if member + 1 < draft.count().get() {
         Ok(Due::Member(member + 1))
     } else {
-        Ok(Due::Claim(0))
+        Ok(Due::Claim(None))
     }
 }
 
-fn read_claim(draft: &mut Draft, rest: &[u8], byte: usize, least: usize) -> Result<Due, Fault>
-    ensures { Reads draft.old.figures (Due.Claim least) byte rest.now result draft.new.figures }
+fn read_claim(
+    draft: &mut Draft,
+    rest: &[u8],
+    byte: usize,
+    last: Option<(u8, u8)>,
+) -> Result<Due, Fault>
+    ensures { Reads draft.old.figures (Due.Claim last) byte rest.now result draft.new.figures }
 {
-    let Record::Claim(body) = first_record(rest, byte, CLAIM, END)? else {
+    let Record::Claim(body) = first_record(rest, byte, Kind::Claim, Kind::End)? else {
         return Ok(Due::Nothing);
     };
     let (debtor, creditor, units) = claim_in(body);
-    let entered = draft.enter_claim(debtor, creditor, units);
-    met_at(byte, entered)?;
-    let place = MEMBERS * debtor as usize + creditor as usize;
-    if units == 0 || place < least {
+    draft
+        .enter_claim(debtor, creditor, units)
+        .map_err(|fault| fault.at_byte(byte))?;
+    let pair = (debtor, creditor);
+    if units == 0 || !follows(pair, last) {
         return Err(file_fault(Cause::ClaimOrder, byte));
     }
-    Ok(Due::Claim(place + 1))
+    Ok(Due::Claim(Some(pair)))
+}
+
+// Whether a claim is behind the last one: on a later debtor, or of a later creditor on the same.
+fn follows(pair: (u8, u8), last: Option<(u8, u8)>) -> bool
+    ensures { result ≡ follows last pair.0 pair.1 }
+{
+    last < Some(pair)
 }

@@ -18,11 +18,11 @@ pub fn copy(from: &Draft, to: &mut Draft, buffer: &mut [u8]) -> Result<usize, Fa
         × (to.new.figures ≡ from.now.figures))
         ((to.new ≡ to.old) × (buffer.new ≡ buffer.old)) result }
 {
-    if to.count().get() != from.count().get() {
+    if to.count() != from.count() {
         return Err(file_fault(Cause::NotDue, 0));
     }
     let length = write(from, buffer)?;
-    load(to, &buffer[0..length])?;
+    load(to, &buffer[..length])?;
     Ok(length)
 }
 
@@ -30,6 +30,7 @@ pub fn copy(from: &Draft, to: &mut Draft, buffer: &mut [u8]) -> Result<usize, Fa
 pub fn rewrite(file: &[u8], buffer: &mut [u8]) -> Result<usize, Fault>
     ensures { Rewritten file.now buffer.old result buffer.new }
 {
+    // The draft is filled in place, not answered: nothing with arrays passes through a `Result`.
     let mut draft = Draft::new(count(file)?);
     load(&mut draft, file)?;
     write(&draft, buffer)

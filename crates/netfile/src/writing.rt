@@ -1,29 +1,34 @@
 // Writing a draft as a network file.
-ghost use Rattle.std.specs.Prelude.{◌≡◌, ◌+◌, ◌≤◌, length};
+ghost use Rattle.std.specs.Prelude.{◌≡◌, ◌+◌, ◌≤◌, count_by, length, nat_lt};
+ghost use Rattle.std.specs.List.{flat_map};
 ghost use Rattle.network.specs.Answers.{Gives};
-ghost use Rattle.netfile.specs.Files.{members_of, claims_of, file_of};
+ghost use Rattle.netfile.specs.Files.{members_of, row_of, claims_of, file_of};
 ghost use Rattle.netfile.specs.Writes.{short_fault, Written, Sole, Put};
 
 use crate::body::{claim_record, member_record};
 use crate::fault::file_fault;
-use crate::record::{BODY_LENGTHS, CLAIM, END, MEMBER, NETWORK};
-use network::{Cause, Draft, Fault, Figures, MEMBERS};
-
-// The places of claims: 32 times the debtor plus the creditor.
-const PLACES: usize = MEMBERS * MEMBERS;
+use crate::kind::Kind;
+use network::{Cause, Draft, Fault, Figures};
 
 // The length of a network's file.
 pub fn file_length(figures: &Figures) -> usize
     ensures { result ≡ length (file_of figures.now) }
 {
-    let members = figures.n as usize * (1 + BODY_LENGTHS[MEMBER as usize]);
-    let mut total = 1 + BODY_LENGTHS[NETWORK as usize] + members;
-    for place in 0..PLACES {
-        if figures.claims[place / MEMBERS][place % MEMBERS] > 0 {
-            total += 1 + BODY_LENGTHS[CLAIM as usize];
-        }
-    }
-    total + 1 + BODY_LENGTHS[END as usize]
+    let members = figures.n as usize * Kind::Member.record_length();
+    let claims = claim_count(figures) * Kind::Claim.record_length();
+    Kind::Network.record_length() + members + claims + Kind::End.record_length()
+}
+
+// The number of claims above 0, each of which has a record.
+fn claim_count(figures: &Figures) -> usize
+    ensures { result ≡ count_by (λ x. nat_lt 0 x) (flat_map (λ row. row) figures.now.claims) }
+{
+    figures
+        .claims
+        .iter()
+        .flatten()
+        .filter(|units| **units > 0)
+        .count()
 }
 
 // Writes a draft's file into a buffer and answers its length; the bytes behind it stay.
@@ -37,10 +42,10 @@ pub fn write(draft: &Draft, buffer: &mut [u8]) -> Result<usize, Fault>
     if buffer.len() < file_length(figures) {
         return Err(file_fault(Cause::ShortBuffer, 0));
     }
-    let mut end = put(buffer, 0, &[NETWORK, figures.n]);
+    let mut end = put(buffer, 0, &[Kind::Network as u8, figures.n]);
     end = put_members(buffer, end, figures);
     end = put_claims(buffer, end, figures);
-    Ok(put(buffer, end, &[END]))
+    Ok(put(buffer, end, &[Kind::End as u8]))
 }
 
 fn put_members(buffer: &mut [u8], start: usize, figures: &Figures) -> usize
@@ -48,24 +53,33 @@ fn put_members(buffer: &mut [u8], start: usize, figures: &Figures) -> usize
     ensures { Put start (members_of figures.now) buffer.old result buffer.new }
 {
     let mut end = start;
-    for member in 0..figures.n {
-        let record = member_record(member, figures.members[member as usize]);
-        end = put(buffer, end, &record);
+    let members = &figures.members[..figures.n as usize];
+    for (member, entry) in members.iter().enumerate() {
+        end = put(buffer, end, &member_record(member as u8, *entry));
     }
     end
 }
 
-// A claim of 0 has no record.
 fn put_claims(buffer: &mut [u8], start: usize, figures: &Figures) -> usize
     requires { start + length (claims_of figures.now) ≤ length buffer.old }
     ensures { Put start (claims_of figures.now) buffer.old result buffer.new }
 {
     let mut end = start;
-    for place in 0..PLACES {
-        let units = figures.claims[place / MEMBERS][place % MEMBERS];
-        if units > 0 {
-            let record = claim_record((place / MEMBERS) as u8, (place % MEMBERS) as u8, units);
-            end = put(buffer, end, &record);
+    for (debtor, row) in figures.claims.iter().enumerate() {
+        end = put_row(buffer, end, debtor as u8, row);
+    }
+    end
+}
+
+// The claims on one debtor; a claim of 0 has no record.
+fn put_row(buffer: &mut [u8], start: usize, debtor: u8, row: &[u32; 32]) -> usize
+    requires { start + length (row_of debtor row.now) ≤ length buffer.old }
+    ensures { Put start (row_of debtor row.now) buffer.old result buffer.new }
+{
+    let mut end = start;
+    for (creditor, units) in row.iter().enumerate() {
+        if *units > 0 {
+            end = put(buffer, end, &claim_record(debtor, creditor as u8, *units));
         }
     }
     end

@@ -33,8 +33,8 @@ mod tests {
 
     fn change(file: &mut [u8], changes: &[(usize, u8)]) {
         for (place, value) in changes {
-            if *place < file.len() {
-                file[*place] = *value;
+            if let Some(byte) = file.get_mut(*place) {
+                *byte = *value;
             }
         }
     }
@@ -50,7 +50,7 @@ mod tests {
         change(&mut file, changes);
         assert!(rt; length <= 63);
         let mut draft = Draft::new(MemberCount::new(3)?);
-        assert_eq!(rt; load(&mut draft, &file[0..length]), Err(fault));
+        assert_eq!(rt; load(&mut draft, &file[..length]), Err(fault));
         Ok(())
     }
 
@@ -126,64 +126,48 @@ mod tests {
     #[test]
     fn there_and_back(rt: HostRuntime) -> Result<(), Fail> {
         let mut draft = Draft::new(count(&FILE)?);
-        load(&mut draft, &FILE[0..62])?;
+        load(&mut draft, &FILE[..62])?;
         assert_eq!(rt; draft.figures().claims[1][2], 5);
         assert_eq!(rt; file_length(draft.figures()), 62);
         let mut buffer = [7; 64];
         assert_eq!(rt; write(&draft, &mut buffer)?, 62);
-        assert!(rt; &buffer[0..62] == &FILE[0..62]);
+        assert_eq!(rt; &buffer[..62], &FILE[..62]);
         assert!(rt; buffer[62] == 7 && buffer[63] == 7);
         let mut copied = Draft::new(draft.count());
         assert_eq!(rt; copy(&draft, &mut copied, &mut buffer)?, 62);
         assert_eq!(rt; copied.figures().claims[1][2], 5);
-        assert_eq!(rt; rewrite(&FILE[0..62], &mut buffer)?, 62);
+        assert_eq!(rt; rewrite(&FILE[..62], &mut buffer)?, 62);
         assert_eq!(rt;
-            rewrite(&FILE[0..62], &mut buffer[0..61]),
+            rewrite(&FILE[..62], &mut buffer[..61]),
             Err(of_file(Cause::ShortBuffer, 0))
         );
         Ok(())
     }
 
-    fn uncounted(rt: &impl Abort, file: &[u8], fault: Fault) -> Result<(), Fail> {
-        match count(file) {
-            Ok(_) => Err(Fail::new("counted")),
-            Err(found) => {
-                assert_eq!(rt; found, fault);
-                Ok(())
-            },
-        }
-    }
-
     #[test]
     fn counts(rt: HostRuntime) -> Result<(), Fail> {
         assert_eq!(rt; count(&[1, 32])?.get(), 32);
-        uncounted(
-            &rt,
-            &[1, 0],
-            Fault::of_nobody(Layer::Draft, Cause::MemberCount),
-        )?;
-        uncounted(
-            &rt,
-            &[1, 33],
-            Fault::of_nobody(Layer::Draft, Cause::MemberCount),
-        )?;
-        uncounted(&rt, &[1], of_file(Cause::EndOfFile, 0))?;
-        uncounted(&rt, &[], of_file(Cause::EndOfFile, 0))?;
-        uncounted(&rt, &[4], of_file(Cause::NotDue, 0))?;
-        uncounted(&rt, &[0, 3], of_file(Cause::UnknownKind, 0))
+        let no_count = Fault::of_nobody(Layer::Draft, Cause::MemberCount);
+        assert_eq!(rt; count(&[1, 0]), Err(no_count));
+        assert_eq!(rt; count(&[1, 33]), Err(no_count));
+        assert_eq!(rt; count(&[1]), Err(of_file(Cause::EndOfFile, 0)));
+        assert_eq!(rt; count(&[]), Err(of_file(Cause::EndOfFile, 0)));
+        assert_eq!(rt; count(&[4]), Err(of_file(Cause::NotDue, 0)));
+        assert_eq!(rt; count(&[0, 3]), Err(of_file(Cause::UnknownKind, 0)));
+        Ok(())
     }
 
     #[test]
     fn records(rt: HostRuntime) -> Result<(), Fail> {
-        match record_at(&FILE, 47)? {
-            Record::Claim(body) => assert!(rt; body == [1, 2, 0, 0, 0, 5].as_slice()),
-            _ => return Err(Fail::new("another kind")),
-        }
+        assert_eq!(rt;
+            record_at(&FILE, 47),
+            Ok(Record::Claim(&[1, 2, 0, 0, 0, 5]))
+        );
         assert_eq!(rt; rest_after(&FILE, 47)?.len(), 9);
-        assert_eq!(rt; rest_after(&FILE[0..62], 61)?.len(), 0);
+        assert_eq!(rt; rest_after(&FILE[..62], 61)?.len(), 0);
         assert_eq!(rt; rest_after(&FILE, 62), Err(of_file(Cause::UnknownKind, 62)));
         assert_eq!(rt;
-            rest_after(&FILE[0..20], 18),
+            rest_after(&FILE[..20], 18),
             Err(of_file(Cause::EndOfFile, 18))
         );
         assert_eq!(rt; rest_after(&FILE, 63), Err(of_file(Cause::EndOfFile, 63)));

@@ -1,6 +1,7 @@
+use Rattle.std.proofs.Common.{◌*◌}
 use Rattle.netfile.specs.Files.{run, claim_bytes}
 use Rattle.netfile.specs.Writes.{Put}
 use Rattle.netfile.proofs.writing.put_claims.Given as goal
 
-abbrev pub invariant-loop-place : goal.invariant-loop-place
-invariant-loop-place l = Put l.start (run (claim_bytes l.figures) 0 l.place) l.initial.buffer l.end l.buffer
+abbrev pub invariant-loop-debtor : goal.invariant-loop-debtor
+invariant-loop-debtor l = Put l.start (run (claim_bytes l.figures) 0 (32 * l.debtor)) l.initial.buffer l.end l.buffer
