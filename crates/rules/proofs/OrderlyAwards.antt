@@ -3,12 +3,11 @@ use Rattle.std.proofs.Common.{ℕ, ◌+◌, ◌<◌, ◌≤◌, List, length, ge
 use Rattle.std.proofs.lemmas.List.{take-take}
 use Rattle.std.proofs.lemmas.List.Sums.{sum_by_more, sum_by-take-le}
 use Rattle.std.proofs.lemmas.Bool.{cases_lt, cases_eq}
-use Rattle.rules.specs.Priority.{priority_award, priority}
+use Rattle.rules.specs.Priority.{priority}
 use Rattle.rules.specs.Theorems.{Only, InOrder}
 use Rattle.rules.proofs.Exchange.{same_unless}
-use Rattle.rules.specs.Lists.{get_or_each}
 use Rattle.rules.specs.Picks.{in_list}
-use Rattle.rules.specs.PriorityLaws.{priority_within, priority_laws}
+use Rattle.rules.specs.PriorityLaws.{award_at, priority_within, priority_laws}
 
 -- the claims of a creditor and of those before it are claims before any later one
 claims_before : (cs : List ℕ) (i j : ℕ) → i < j → i < length cs → sum (take i cs) + get_or cs i 0 ≤ sum (take j cs)
@@ -19,7 +18,7 @@ claims_before cs i j lt listed =
 priority_in_order : (e : ℕ) (cs : List ℕ) → InOrder cs (priority e cs)
 priority_in_order e cs i j lt some =
     let in-j : j < length cs = in_list cs j (omega (arith, priority_within e cs j)) in
-    omega (arith, get_or_each cs (priority_award e cs) j in-j, get_or_each cs (priority_award e cs) i (omega arith), claims_before cs i j lt (omega arith))
+    omega (arith, award_at e cs j, award_at e cs i, claims_before cs i j lt (omega arith))
 
 never_both : (cs bs hs : List ℕ) → ((k : ℕ) → get_or bs k 0 ≤ get_or cs k 0) → ((k : ℕ) → get_or hs k 0 ≤ get_or cs k 0) → InOrder cs bs → InOrder cs hs → (i j : ℕ) → get_or bs i 0 < get_or hs i 0 → get_or hs j 0 < get_or bs j 0 → ⊥
 never_both cs bs hs within_b within-h order-b order-h i j more less =

@@ -2,11 +2,12 @@
 use Rattle.std.specs.Prelude.{◌≡◌, ℕ, zero, suc, ◌+◌, ◌-◌, ◌<◌, ◌≤◌, min, List, length, sum, slice_index}
 use Rattle.std.proofs.Common.{⊎_elim, ap, ◌∙◌, add-one, arith}
 use Rattle.std.proofs.lemmas.List.{length-replicate}
+use Rattle.std.proofs.lemmas.List.Folds.{sum_by-replicate}
 use Rattle.std.proofs.lemmas.Bool.{cases_eq}
 use Rattle.rules.specs.Claims.{Admitted}
 use Rattle.rules.specs.InTurn.{Part, joined, earlier, share, in_turn, Splits, InTurnLawful}
 use Rattle.rules.specs.Places.{plus}
-use Rattle.rules.specs.Lists.{length_plus, get_or_plus, sum_plus, sum_zeros}
+use Rattle.rules.specs.Lists.{length_plus, get_or_plus, sum_plus}
 
 module _ (p : ℕ → Part) (cs : List ℕ) where
   joined_grows : (m n k : ℕ) → m ≤ n → slice_index (joined p m cs) k ≤ slice_index (joined p n cs) k
@@ -18,7 +19,7 @@ module _ (p : ℕ → Part) (cs : List ℕ) where
       (cases_eq m (suc n))
 
   pub earlier_is : (n : ℕ) → earlier p n cs ≡ sum (joined p n cs)
-  earlier_is zero = omega (arith, sum_zeros (length cs))
+  earlier_is zero = omega (arith, sum_by-replicate (λ x. x) (length cs) 0)
   earlier_is (suc n) = omega (arith, earlier_is n, sum_plus (joined p n cs) ((p n).portion cs))
 
   pub earlier_grows : (m n : ℕ) → m ≤ n → earlier p m cs ≤ earlier p n cs
@@ -50,7 +51,7 @@ module _ (p : ℕ → Part) (all : ℕ) (s : Splits p all) (cs : List ℕ) (ok :
       length_plus (in_turn p n e cs) (brought n e) (omega (arith, s.places n le cs ok)) ∙ before
 
   sum_in_turn : (n e : ℕ) → n ≤ all → sum (in_turn p n e cs) ≡ min e (sum (joined p n cs))
-  sum_in_turn zero e le = omega (arith, sum_zeros (length cs))
+  sum_in_turn zero e le = omega (arith, sum_by-replicate (λ x. x) (length cs) 0)
   sum_in_turn (suc n) e le =
       omega (
         arith,

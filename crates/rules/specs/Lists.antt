@@ -1,8 +1,9 @@
 -- Lists of units: their lengths, places and sums.
-use Rattle.std.specs.Prelude.{◌≡◌, ℕ, zero, suc, ◌+◌, ◌-◌, ◌*◌, ◌<◌, ◌≤◌, List, [], ◌∷◌, length, replicate, sum, slice_index, slice_index_or, refl}
+use Rattle.std.specs.Prelude.{◌≡◌, ℕ, zero, suc, ◌+◌, ◌-◌, ◌<◌, ◌≤◌, List, [], ◌∷◌, length, replicate, sum, slice_index, slice_index_or, refl}
 use Rattle.std.proofs.Common.{sym, ap, arith}
 use Rattle.std.proofs.lemmas.List.FromFn.{length-map-range_with_len, get_or-map-range_with_len}
-use Rattle.std.proofs.lemmas.List.Sums.{sum_by-cons}
+use Rattle.std.proofs.lemmas.List.Elements.{All-from_get_or}
+use Rattle.std.proofs.lemmas.List.Sums.{sum_by-cons, sum_by-le}
 use Rattle.rules.specs.Claims.{Admitted}
 use Rattle.rules.specs.Places.{each, plus, minus}
 
@@ -54,10 +55,6 @@ sum_minus (x ∷ xs) (y ∷ ys) same le =
       sum_by-cons (λ x. x) (x - y) (minus xs ys),
     )
 
-pub sum_zeros : (n : ℕ) → sum (replicate n 0) ≡ 0
-sum_zeros zero = refl
-sum_zeros (suc n) = omega (arith, sum_zeros n, sum_by-cons (λ x. x) 0 (replicate n 0))
-
 pub get_or_zeros : (n k : ℕ) → slice_index_or {A = ℕ} (replicate n 0) k 0 ≡ 0
 get_or_zeros zero k = refl
 get_or_zeros (suc n) zero = refl
@@ -71,9 +68,5 @@ sum_le (x ∷ xs) [] same le = absurd (omega arith)
 sum_le (x ∷ xs) (y ∷ ys) same le =
     omega (arith, le 0 (omega arith), sum_le xs ys (omega arith) (λ k lt. le (suc k) (omega arith)), sum_by-cons (λ x. x) x xs, sum_by-cons (λ x. x) y ys)
 
-sum_small : (cs : List ℕ) → ((k : ℕ) → slice_index cs k ≤ 10000) → sum cs ≤ 10000 * length cs
-sum_small [] small = omega arith
-sum_small (c ∷ cs) small = omega (arith, small 0, sum_small cs (λ k. small (suc k)), sum_by-cons (λ x. x) c cs)
-
 pub admitted_total : (cs : List ℕ) → Admitted cs → sum cs ≤ 320000
-admitted_total cs ok = omega (arith, sum_small cs ok.small, ok.few)
+admitted_total cs ok = omega (arith, sum_by-le (λ x. x) 10000 cs (All-from_get_or (λ x. x ≤ 10000) cs 0 (λ k lt. ok.small k)), ok.few)

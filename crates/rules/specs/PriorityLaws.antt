@@ -19,24 +19,21 @@ first_total e cs (suc n) le =
     let before = first_total e cs n (omega arith) in
     subst (λ m. sum (map (priority_award e cs) (range_with_len 0 m)) ≡ min e (sum (take m cs))) (add-one n) (omega arith)
 
-award_past : (e : ℕ) (cs : List ℕ) (k : ℕ) → length cs ≤ k → slice_index (priority e cs) k ≡ 0
-award_past e cs k past = get_or_past (priority e cs) k 0 (omega (arith, length_each cs (priority_award e cs)))
+-- past the list there is no claim, and so no award
+pub award_at : (e : ℕ) (cs : List ℕ) (k : ℕ) → slice_index (priority e cs) k ≡ priority_award e cs k
+award_at e cs k =
+    ⊎_elim
+    (λ lt. get_or_each cs (priority_award e cs) k lt)
+    (λ past. omega (arith, get_or_past (priority e cs) k 0 (omega (arith, length_each cs (priority_award e cs))), get_or_past cs k 0 past))
+    (cases_lt k (length cs))
 
 pub priority_within : (e : ℕ) (cs : List ℕ) (k : ℕ) → slice_index (priority e cs) k ≤ slice_index cs k
-priority_within e cs k =
-    ⊎_elim
-    (λ lt. omega (arith, get_or_each cs (priority_award e cs) k lt))
-    (λ past. omega (arith, award_past e cs k past))
-    (cases_lt k (length cs))
+priority_within e cs k = omega (arith, award_at e cs k)
 
 pub priority_laws : Lawful priority
 priority_laws = record {
   count = λ e cs ok. length_each cs (priority_award e cs);
   total = λ e cs ok. first_total e cs (length cs) (omega arith) ∙ ap (λ xs. min e (sum xs)) (take_all (length cs) cs (omega arith));
   within = λ e cs ok. priority_within e cs;
-  grows = λ e more cs ok le k.
-      ⊎_elim
-      (λ lt. omega (arith, get_or_each cs (priority_award e cs) k lt, get_or_each cs (priority_award more cs) k lt))
-      (λ past. omega (arith, award_past e cs k past))
-      (cases_lt k (length cs));
+  grows = λ e more cs ok le k. omega (arith, award_at e cs k, award_at more cs k);
 }

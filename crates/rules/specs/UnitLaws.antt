@@ -2,12 +2,13 @@
 use Rattle.std.specs.Prelude.{◌≡◌, ℕ, zero, suc, ◌+◌, ◌<◌, ◌≤◌, min, List, length, Some, None, sum, Option, slice_index}
 use Rattle.std.proofs.Common.{⊎_elim, sym, ◌∙◌, arith}
 use Rattle.std.proofs.lemmas.List.{length-set, get_or-set_same, get_or-set_other, length-replicate}
+use Rattle.std.proofs.lemmas.List.Folds.{sum_by-replicate}
 use Rattle.std.proofs.lemmas.List.Sums.{sum_by-set}
 use Rattle.std.proofs.lemmas.Bool.{cases_eq}
 use Rattle.rules.specs.Laws.{Lawful}
 use Rattle.rules.specs.Standards.{Scoring}
 use Rattle.rules.specs.Unit.{picked, raised, dealt, unit_rule}
-use Rattle.rules.specs.Lists.{sum_le, sum_zeros, get_or_zeros}
+use Rattle.rules.specs.Lists.{sum_le, get_or_zeros}
 use Rattle.rules.specs.Picks.{FirstOf, first_picked}
 
 module _ (f : Scoring) (cs hs : List ℕ) (same : length hs ≡ length cs) where
@@ -60,7 +61,7 @@ module _ (f : Scoring) (positive : (j c h : ℕ) → 1 ≤ (f j c h).1) (cs : Li
       (cases_eq m (suc n))
 
   pub sum_dealt : (n : ℕ) → n ≤ sum cs → sum (dealt f cs n) ≡ n
-  sum_dealt zero le = sum_zeros (length cs)
+  sum_dealt zero le = omega (arith, sum_by-replicate (λ x. x) (length cs) 0)
   sum_dealt (suc n) le =
       let before : sum (dealt f cs n) ≡ n = sum_dealt n (omega arith) in
       omega (arith, sum_raised f cs (dealt f cs n) (length_dealt n) (next_pick n) (next_first n) (omega arith))

@@ -1,18 +1,8 @@
-use Rattle.std.proofs.Common.{◌≡◌, ℕ, ◌-◌, ◌<◌, ◌≤◌, ◌≢◌, List, length, get_or, sym, ◌∙◌, arith, below_more}
-use Rattle.std.proofs.lemmas.List.{ext_get_or, get_or-set_same, get_or-set_other}
+use Rattle.std.proofs.Common.{◌≡◌, ℕ, ◌-◌, ◌<◌, ◌≤◌, List, length, get_or, sym, ◌∙◌, arith}
+use Rattle.std.proofs.lemmas.List.{ext_get_or}
 use Rattle.rules.specs.Places.{minus}
 use Rattle.rules.specs.Lists.{length_minus, get_or_minus}
 use Rattle.rules.proofs.dual.take_from.Goals as goal
-
-pub loop-k-preserved : goal.loop-k-preserved
-loop-k-preserved c =
-    let k : ℕ = c.loop-k.k in
-    let untouched = c.loop-k.invariant.1 k (omega arith) in (
-      below_more _ _
-          (λ j lt. let ne : j ≢ k = omega arith in rw get_or-set_other (c.loop-k.invariant.0 j lt))
-          (let lt : k < length c.loop-k.awards = omega arith in rw get_or-set_same (omega arith)),
-      λ j le. let ne : j ≢ k = omega arith in rw get_or-set_other (c.loop-k.invariant.1 j (omega arith)),
-    )
 
 last : (now was cs : List ℕ) (n : ℕ) → length now ≡ length cs → length cs ≤ n → ((k : ℕ) → k < n → get_or now k 0 ≡ get_or cs k 0 - get_or was k 0) → now ≡ minus cs was
 last now was cs n same past inv =

@@ -1,4 +1,4 @@
-use Rattle.std.proofs.Common.{◌≡◌, ℕ, min, List, length, get_or, take, replicate, sum, sym, ap, ◌∙◌, arith, rules}
+use Rattle.std.proofs.Common.{◌≡◌, ℕ, min, List, length, get_or, take, replicate, sum, sym, ap, ◌∙◌, arith}
 use Rattle.std.proofs.lemmas.List.{length-take, length-replicate}
 use Rattle.rules.specs.Claims.{Admitted}
 use Rattle.rules.specs.Places.{plus}
@@ -11,8 +11,8 @@ use Rattle.rules.proofs.in_turn.serve.Goals.{then-share-total, else-share-total+
 room : (cs : List ℕ) → Admitted cs → length (take (length cs) (replicate {A = ℕ} 32 0)) ≡ length cs
 room cs ok = omega (arith, ok.few, length-take (length cs) (replicate {A = ℕ} 32 0), length-replicate {A = ℕ} 32 0)
 
-pub add_to-requires-then-share-gt0 : goal.add_to-requires-then-share-gt0
-add_to-requires-then-share-gt0 g c =
+pub add_to-requires-then-share-gt0-clause-fits : goal.add_to-requires-then-share-gt0-clause-fits
+add_to-requires-then-share-gt0-clause-fits g c =
     let f = g.R.Rulebook.awarded c.args.rulebook.now c.args.house in
     let laws = g.met.R.Rulebook.lawful c.args.rulebook.now c.args.house in
     let cs : List ℕ = c.part.inside.list.now in
@@ -20,13 +20,10 @@ add_to-requires-then-share-gt0 g c =
     let long = ap length given in
     let e : ℕ = c.min-share.result in
     let is : c.awards.new.awards ≡ f e cs = filled cs _ c.awards.result _ _ _ c.part.invariant (room cs c.part.invariant) c.awards.ensures in
-    record {
-      same = rw is (omega (arith, laws.count e cs c.part.invariant));
-      fits = λ k. rw is (omega (arith, laws.within e cs c.part.invariant k, c.requires.fits k, ap (λ xs. get_or xs k 0) given));
-    }
+    λ k. rw is (omega (arith, laws.within e cs c.part.invariant k, c.requires.fits k, ap (λ xs. get_or xs k 0) given))
 
-pub returns : goal.returns
-returns g c =
+pub returns-clause-served : goal.returns-clause-served
+returns-clause-served g c =
     let f = g.R.Rulebook.awarded c.args.rulebook.now c.args.house in
     let laws = g.met.R.Rulebook.lawful c.args.rulebook.now c.args.house in
     let cs : List ℕ = c.part.inside.list.now in
@@ -48,4 +45,4 @@ returns g c =
           let none : e ≡ 0 = omega (arith, w.if-share-gt0.false) in
           w.awards-is ∙ nothing_served f laws cs now ok (omega arith) ∙ sym (ap (λ x. plus now (f x cs)) none)
     ] in
-    record { rest = search rules; served = served ∙ ap (λ x. plus now (f x cs)) worth ∙ ap (λ xs. plus now (f (min c.args.left (sum xs)) xs)) given }
+    served ∙ ap (λ x. plus now (f x cs)) worth ∙ ap (λ xs. plus now (f (min c.args.left (sum xs)) xs)) given

@@ -1,6 +1,6 @@
-use Rattle.std.proofs.Common.{◌≡◌, ℕ, suc, ◌+◌, ◌≤◌, List, get_or, refl, ap, subst, arith}
-use Rattle.rules.specs.Classes.{classes_of, by_class}
-use Rattle.rules.specs.Ring.{ring_rule, RingRules, RingApart}
+use Rattle.std.proofs.Common.{ℕ, ◌≤◌, List, get_or, subst}
+use Rattle.rules.specs.Classes.{classes_of}
+use Rattle.rules.specs.Ring.{ring_rule, RingApart}
 use Rattle.rules.specs.Standards.{equal_score, jefferson_score}
 use Rattle.rules.specs.Theorems.{Level}
 use Rattle.rules.specs.Unit.{equal_awards, jefferson}
@@ -13,15 +13,6 @@ use Rattle.rules.proofs.StandardScores.{equal_positive, jefferson_positive}
 use Rattle.rules.specs.UnitLaws.{unit_laws}
 use Rattle.rules.proofs.ring.ring_rulebook.Goals as goal
 
-houses : (us ts : List ℕ) → us ≡ ts → RingRules (ring_rule us) ts
-houses us ts is = record {
-  house_0 = refl;
-  house_1 = refl;
-  house_2 = refl;
-  house_3 = refl;
-  others = λ h. let past : 4 + h ≡ suc (suc (suc (suc h))) = omega arith in rw past (ap (λ xs. by_class xs jefferson) is);
-}
-
 apart : (us ts : List ℕ) → ((k : ℕ) → get_or ts k 0 ≤ 7) → RingApart (ring_rule us) ts
 apart us ts low = record {
   house_0 = priority_only;
@@ -32,11 +23,7 @@ apart us ts low = record {
   others = classes_apart ts jefferson low (unit_laws jefferson_score jefferson_positive);
 }
 
-pub returns : goal.returns
-returns c =
-    let us : List ℕ = c.new-classes.result.table.classes in
-    let ts : List ℕ = classes_of c.args.figures.now in
-    record {
-      rules = houses us ts (cc);
-      apart = apart us ts (subst (λ xs. (k : ℕ) → get_or xs k 0 ≤ 7) c.of.ensures.entries c.of.result.low);
-    }
+pub returns-clause-apart : goal.returns-clause-apart
+returns-clause-apart c =
+    apart c.new-classes.result.table.classes (classes_of c.args.figures.now)
+    (subst (λ xs. (k : ℕ) → get_or xs k 0 ≤ 7) c.of.ensures.entries c.of.result.low)

@@ -2,7 +2,7 @@ use Rattle.std.proofs.Common.{ℕ, ◌<◌, List, subst, arith}
 use Rattle.rules.specs.Claims.{Admitted}
 use Rattle.rules.specs.Classes.{class_part}
 use Rattle.rules.specs.ClassLaws.{length_of_class, class_splits}
-use Rattle.rules.specs.InTurnLaws.{in_turn_fits, in_turn_more, left_more}
+use Rattle.rules.specs.InTurnLaws.{in_turn_fits}
 use Rattle.rules.proofs.classes.Classes.serve_classes.Goals as goal
 
 pub serve-left-requires : goal.serve-left-requires
@@ -19,13 +19,3 @@ serve-left-requires g c =
       same = rw c.select-part.ensures (omega arith);
       fits = λ k. rw (c.select-part.ensures, c.loop-class.invariant.0) (in_turn_fits (class_part s.table.classes f) 8 splits cs ok t c.args.estate k lt);
     }
-
-pub loop-class-preserved : goal.loop-class-preserved
-loop-class-preserved g c =
-    let s = c.args.self.now in
-    let p = class_part s.table.classes (g.R.Rulebook.awarded s.below c.args.house) in (
-      in_turn_more p c.loop-class.class c.args.estate c.args.claims.now c.select-part.result c.loop-class.awards c.serve-left.new.awards
-          c.loop-class.left c.loop-class.invariant.0 c.loop-class.invariant.1 c.select-part.ensures c.serve-left.ensures.served,
-      left_more p c.loop-class.class c.args.estate c.args.claims.now c.select-part.result c.loop-class.left c.serve-left.result
-          c.loop-class.invariant.1 c.select-part.ensures c.serve-left.ensures.rest,
-    )
