@@ -10,6 +10,7 @@ mod loading;
 mod reading;
 mod record;
 mod trips;
+mod writer;
 mod writing;
 
 pub use counting::count;

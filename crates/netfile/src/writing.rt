@@ -8,6 +8,7 @@ ghost use Rattle.netfile.specs.Writes.{short_fault, Written, Sole, Put};
 use crate::body::{claim_record, member_record};
 use crate::fault::file_fault;
 use crate::kind::Kind;
+use crate::writer::Writer;
 use network::{Cause, Draft, Fault, Figures};
 
 // The length of a network's file.
@@ -42,55 +43,47 @@ pub fn write(draft: &Draft, buffer: &mut [u8]) -> Result<usize, Fault>
     if buffer.len() < file_length(figures) {
         return Err(file_fault(Cause::ShortBuffer, 0));
     }
-    let mut end = put(buffer, 0, &[Kind::Network as u8, figures.n]);
-    end = put_members(buffer, end, figures);
-    end = put_claims(buffer, end, figures);
-    Ok(put(buffer, end, &[Kind::End as u8]))
+    let mut writer = Writer { buffer, end: 0 };
+    writer.put(&[Kind::Network as u8, figures.n]);
+    put_members(&mut writer, figures);
+    put_claims(&mut writer, figures);
+    writer.put(&[Kind::End as u8]);
+    Ok(writer.end)
 }
 
-fn put_members(buffer: &mut [u8], start: usize, figures: &Figures) -> usize
-    requires { start + length (members_of figures.now) ≤ length buffer.old }
-    ensures { Put start (members_of figures.now) buffer.old result buffer.new }
+fn put_members(writer: &mut Writer, figures: &Figures)
+    requires { writer.old.end + length (members_of figures.now) ≤ length writer.old.buffer.now }
+    ensures same { writer.new.buffer.ghost_name ≡ writer.old.buffer.ghost_name }
+    ensures put { Put writer.old.end (members_of figures.now) writer.old.buffer.now
+        writer.new.end writer.new.buffer.now }
 {
-    let mut end = start;
     let members = &figures.members[..figures.n as usize];
     for (member, entry) in members.iter().enumerate() {
-        end = put(buffer, end, &member_record(member as u8, *entry));
+        writer.put(&member_record(member as u8, *entry));
     }
-    end
 }
 
-fn put_claims(buffer: &mut [u8], start: usize, figures: &Figures) -> usize
-    requires { start + length (claims_of figures.now) ≤ length buffer.old }
-    ensures { Put start (claims_of figures.now) buffer.old result buffer.new }
+fn put_claims(writer: &mut Writer, figures: &Figures)
+    requires { writer.old.end + length (claims_of figures.now) ≤ length writer.old.buffer.now }
+    ensures same { writer.new.buffer.ghost_name ≡ writer.old.buffer.ghost_name }
+    ensures put { Put writer.old.end (claims_of figures.now) writer.old.buffer.now
+        writer.new.end writer.new.buffer.now }
 {
-    let mut end = start;
     for (debtor, row) in figures.claims.iter().enumerate() {
-        end = put_row(buffer, end, debtor as u8, row);
+        put_row(writer, debtor as u8, row);
     }
-    end
 }
 
 // The claims on one debtor; a claim of 0 has no record.
-fn put_row(buffer: &mut [u8], start: usize, debtor: u8, row: &[u32; 32]) -> usize
-    requires { start + length (row_of debtor row.now) ≤ length buffer.old }
-    ensures { Put start (row_of debtor row.now) buffer.old result buffer.new }
+fn put_row(writer: &mut Writer, debtor: u8, row: &[u32; 32])
+    requires { writer.old.end + length (row_of debtor row.now) ≤ length writer.old.buffer.now }
+    ensures same { writer.new.buffer.ghost_name ≡ writer.old.buffer.ghost_name }
+    ensures put { Put writer.old.end (row_of debtor row.now) writer.old.buffer.now
+        writer.new.end writer.new.buffer.now }
 {
-    let mut end = start;
     for (creditor, units) in row.iter().enumerate() {
         if *units > 0 {
-            end = put(buffer, end, &claim_record(debtor, creditor as u8, *units));
+            writer.put(&claim_record(debtor, creditor as u8, *units));
         }
     }
-    end
-}
-
-// Writes a record over a buffer from `start` on, and answers where it ends.
-fn put(buffer: &mut [u8], start: usize, bytes: &[u8]) -> usize
-    requires { start + length bytes.now ≤ length buffer.old }
-    ensures { Put start bytes.now buffer.old result buffer.new }
-{
-    let end = start + bytes.len();
-    buffer[start..end].copy_from_slice(bytes);
-    end
 }

@@ -2,20 +2,20 @@ use Rattle.std.proofs.Common.{◌≡◌, ◌+◌, length, refl, ap, ◌∙◌, a
 use Rattle.std.proofs.lemmas.List.{get_or-take}
 use Rattle.network.specs.Limits.{nobody}
 use Rattle.netfile.specs.Files.{run, member_record, member_bytes}
-use Rattle.netfile.proofs.Puts.{put_as, put_none, put_more}
+use Rattle.netfile.proofs.Puts.{put_as, put_none, put_room, put_more}
 use Rattle.netfile.proofs.Runs.{run_room, length_more}
 use Rattle.netfile.proofs.writing.put_members.Goals as goal
 
 pub loop-member-init : goal.loop-member-init
 unfolding run
-loop-member-init c = put_none c.args.start c.args.buffer.now
+loop-member-init c = (refl, put_none c.args.writer.now.end c.args.writer.now.buffer.now)
 
-pub put-end-requires : goal.put-end-requires
-put-end-requires c =
+pub put-requires : goal.put-requires
+put-requires c =
     let F = member_bytes c.args.figures.now in
     let i = c.loop-member.member in
     let room = run_room F (i + 1) c.args.figures.now.n (omega arith) in
-    omega (arith, room, length_more F i, c.requires, c.loop-member.invariant.ends, ap length c.member_record.ensures)
+    put_room c.member_record.result c.loop-member.invariant.1 (omega (arith, room, length_more F i, c.requires, ap length c.member_record.ensures))
 
 pub loop-member-preserved : goal.loop-member-preserved
 loop-member-preserved c =
@@ -23,5 +23,7 @@ loop-member-preserved c =
     let F = member_bytes f in
     let i = c.loop-member.member in
     let room = run_room F i f.n (omega arith) in
-    let is : c.member_record.result ≡ F i = c.member_record.ensures ∙ ap (member_record i) (get_or-take f.n f.members i nobody (omega arith)) in
-    put_more F c.loop-member.invariant (put_as c.put-end.ensures is refl refl) (omega (arith, room, c.requires))
+    let is : c.member_record.result ≡ F i = c.member_record.ensures ∙ ap (member_record i) (get_or-take f.n f.members i nobody (omega arith)) in (
+      c.put.ensures.same ∙ c.loop-member.invariant.0,
+      put_more F c.loop-member.invariant.1 (put_as c.put.ensures.put is refl refl) (omega (arith, room, c.requires)),
+    )
