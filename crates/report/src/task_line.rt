@@ -34,11 +34,11 @@ impl fmt::Display for AnswerText {
 
     fn fmt<W: fmt::Write>(&self, f: &mut fmt::Formatter<W>) -> fmt::Result {
         match self.0 {
-            Answer::Refused(fault) => {
+            Answer::Units(Ok(units)) => write!(f, "{units}"),
+            Answer::Units(Err(fault)) => {
                 let line = Line::Fault(fault);
                 write!(f, "{line}")
             }
-            Answer::Units(units) => write!(f, "{units}"),
             Answer::Rounded(units, passed) => write!(f, "{units} {passed}"),
             Answer::Member(Some(member)) => write!(f, "{member}"),
             Answer::Member(None) => write!(f, "none"),
