@@ -2,6 +2,7 @@ pub mod Tables
 pub mod Rulebooks
 pub mod Views
 pub mod Calls
+pub mod Seats
 pub mod Rests
 pub mod Visits
 pub mod Lives

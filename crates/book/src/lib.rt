@@ -5,6 +5,7 @@ mod book;
 mod call;
 mod close;
 mod compare;
+mod dues;
 mod examples;
 mod lives;
 mod open;
@@ -12,7 +13,10 @@ mod pay;
 mod questions;
 mod round;
 mod rows;
+mod seat;
+mod seating;
 mod settle;
+mod settlement;
 mod sheet;
 mod visits;
 
