@@ -43,7 +43,7 @@ fn read_member(draft: &mut Draft, rest: &[u8], byte: usize, member: u8) -> Resul
     if number != member {
         return Err(file_fault(Cause::NotDue, byte));
     }
-    let entered = draft.enter_member(member, entry.house, entry.class, entry.endowment);
+    let entered = draft.enter_member(member, entry);
     met_at(byte, entered)?;
     if member + 1 < draft.count().get() {
         Ok(Due::Member(member + 1))

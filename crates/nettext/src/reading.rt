@@ -2,7 +2,7 @@
 ghost use Rattle.std.specs.Prelude.{◌≡◌, OnErr};
 
 use crate::line::{TextLine, parse_line};
-use network::{Draft, Fault, MEMBERS, MemberCount};
+use network::{Draft, Fault, MEMBERS, Member, MemberCount};
 use std::fmt;
 
 // What is wrong with a line.
@@ -115,7 +115,12 @@ fn enter(draft: &mut Draft, due: Due, line: TextLine) -> Result<Due, Slip> {
             if member != next {
                 return Err(Slip::Member);
             }
-            match draft.enter_member(member, house, class, endowment) {
+            let entry = Member {
+                house,
+                class,
+                endowment,
+            };
+            match draft.enter_member(member, entry) {
                 Ok(()) => Ok(Due::Member(next.saturating_add(1))),
                 Err(fault) => Err(Slip::Refused(fault)),
             }

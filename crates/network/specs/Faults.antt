@@ -1,5 +1,5 @@
 -- Faults: the number of each cause, the name of each layer, and the shapes that a fault has.
-use Rattle.std.specs.Prelude.{ℕ, List, codes}
+use Rattle.std.specs.Prelude.{ℕ, List, [], ◌∷◌, codes, decimal}
 use Rattle.network.specs.declared.fault.Cause.{Cause}
 use Rattle.network.specs.declared.fault.Cause.TheVariants.{
   MemberCount,
@@ -22,6 +22,7 @@ use Rattle.network.specs.declared.fault.Cause.TheVariants.{
 use Rattle.network.specs.declared.fault.Fault.{Fault}
 use Rattle.network.specs.declared.fault.Layer.{Layer}
 use Rattle.network.specs.declared.fault.Layer.TheVariants.{File, Draft, Book, Rule}
+use Rattle.network.specs.Words.{spaced}
 
 abbrev pub number_of : Cause → ℕ
 number_of MemberCount = 1
@@ -64,3 +65,7 @@ of_nobody layer cause = of_pair layer cause 255 255
 -- the same fault, met in the record that begins at that byte
 abbrev pub at_byte : ℕ → Fault → Fault
 at_byte byte e = record { cause = e.cause; layer = e.layer; byte = byte; debtor = e.debtor; creditor = e.creditor }
+
+-- a fault as it is printed
+abbrev pub fault_text : Fault → List ℕ
+fault_text e = spaced (codes "fault") (decimal (number_of e.cause) ∷ name_of e.layer ∷ decimal e.byte ∷ decimal e.debtor ∷ decimal e.creditor ∷ [])

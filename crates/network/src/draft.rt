@@ -44,31 +44,20 @@ impl Draft {
     }
 
     // Sets the house, the class and the endowment of one member.
-    pub fn enter_member(
-        &mut self,
-        member: u8,
-        house: u8,
-        class: u8,
-        endowment: u32,
-    ) -> Result<(), Fault>
-        ensures { Gives (member_fault self.old.figures.n member class endowment)
-            (λ _. MemberSet self.old.figures member house class endowment self.new.figures)
+    pub fn enter_member(&mut self, member: u8, entry: Member) -> Result<(), Fault>
+        ensures { Gives (member_fault self.old.figures.n member entry.class entry.endowment)
+            (λ _. MemberSet self.old.figures member entry.house entry.class entry.endowment self.new.figures)
             (self.new ≡ self.old) result }
     {
         if member >= self.figures.n {
             return Err(Fault::of_member(Layer::Draft, Cause::NoSuchMember, member));
         }
-        if class > 7 {
+        if entry.class > 7 {
             return Err(Fault::of_member(Layer::Draft, Cause::ClassTooHigh, member));
         }
-        if endowment > 1_000_000 {
+        if entry.endowment > 1_000_000 {
             return Err(Fault::of_member(Layer::Draft, Cause::EndowmentTooLarge, member));
         }
-        let entry = Member {
-            house,
-            class,
-            endowment,
-        };
         self.figures.set_member(member, entry);
         Ok(())
     }

@@ -1,8 +1,20 @@
 // Refusals: what is wrong, in which layer, at which byte of a file, and who is named.
-ghost use Rattle.std.specs.Prelude.{◌≡◌};
-ghost use Rattle.network.specs.Faults.{number_of, name_of, at_byte, of_nobody, of_member, of_pair, of_creditor};
+ghost use Rattle.std.specs.Prelude.{◌≡◌, Some};
+ghost use Rattle.network.specs.Faults.{
+  number_of,
+  name_of,
+  at_byte,
+  of_nobody,
+  of_member,
+  of_pair,
+  of_creditor,
+  fault_text,
+};
 
-// Stands for a debtor or a creditor where a fault names none.
+use std::fmt;
+
+// Stands for a debtor or a creditor where a fault names none. (No Option: a fault names members as they were given, 255
+// among them, and both are the same number where a fault is printed.)
 pub const NOBODY: u8 = 255;
 
 // The part of the engine that a refusal belongs to.
@@ -25,6 +37,14 @@ impl Layer {
             Layer::Book => "book",
             Layer::Rule => "rule",
         }
+    }
+}
+
+impl fmt::Display for Layer {
+    ghost output = { λ l. Some (name_of l) };
+
+    fn fmt<W: fmt::Write>(&self, f: &mut fmt::Formatter<W>) -> fmt::Result {
+        f.write_str(self.name())
     }
 }
 
@@ -121,5 +141,19 @@ impl Fault {
         ensures { result ≡ at_byte byte self }
     {
         Fault { byte, ..self }
+    }
+}
+
+// A fault as every program prints it: its number, layer and byte, and whom it names.
+impl fmt::Display for Fault {
+    ghost output = { λ e. Some (fault_text e) };
+
+    fn fmt<W: fmt::Write>(&self, f: &mut fmt::Formatter<W>) -> fmt::Result {
+        let number = self.cause.number();
+        let layer = self.layer;
+        let byte = self.byte;
+        let debtor = self.debtor;
+        let creditor = self.creditor;
+        write!(f, "fault {number} {layer} {byte} {debtor} {creditor}")
     }
 }

@@ -15,7 +15,8 @@ pub struct Member {
 }
 
 // The entries of a network of `n` members; `claims[i][j]` is the claim of creditor j on debtor i.
-// Every entry at or past `n` is 0, so equal networks have equal figures.
+// Every entry at or past `n` is 0, so equal networks have equal figures. (Tables of a fixed width and no Vec: making a draft
+// cannot fail, so it may not allocate.)
 #[derive(Clone, Copy)]
 pub struct Figures {
     pub n: u8,

@@ -7,7 +7,7 @@ use crate::fault::{Cause, Fault, Layer};
 use crate::figures::Figures;
 
 // An accepted number of members, from 1 to 32.
-#[derive(Clone, Copy)]
+#[derive(Clone, Copy, PartialEq, Eq, Debug)]
 pub struct MemberCount {
     n: u8,
     ghost some: { 1 ≤ n },

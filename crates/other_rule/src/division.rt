@@ -1,5 +1,5 @@
 // Divisions worked out by hand, to compare a rulebook's awards with.
-use network::{Draft, Fault, MemberCount};
+use network::{Draft, Fault, Member, MemberCount};
 use rules::Rulebook;
 use std::process::Abort;
 use std::test::Fail;
@@ -23,8 +23,13 @@ pub(crate) fn check_divisions<R: Rulebook>(
 // The draft of a network of three members of these classes.
 pub(crate) fn draft_of(classes: [u8; 3]) -> Result<Draft, Fault> {
     let mut draft = Draft::new(MemberCount::new(3)?);
-    draft.enter_member(0, 0, classes[0], 0)?;
-    draft.enter_member(1, 0, classes[1], 0)?;
-    draft.enter_member(2, 0, classes[2], 0)?;
+    let of_class = |class| Member {
+        house: 0,
+        class,
+        endowment: 0,
+    };
+    draft.enter_member(0, of_class(classes[0]))?;
+    draft.enter_member(1, of_class(classes[1]))?;
+    draft.enter_member(2, of_class(classes[2]))?;
     Ok(draft)
 }

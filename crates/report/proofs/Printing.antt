@@ -2,7 +2,8 @@
 use Rattle.std.proofs.Common.{◌≡◌, ℕ, ◌+◌, ◌/◌, ◌%◌, ◌^◌, ◌<◌, ◌≤◌, List, [], ◌∷◌, ◌++◌, map, length, get_or, take, IfOk, Ok, Err, codes, decimal, Result, sym, ap, ◌∙◌, append_assoc}
 use Rattle.std.proofs.lemmas.Fmt.{decimal_step}
 use Rattle.std.proofs.lemmas.List.{append-nil, map_more, take_more, take_all}
-use Rattle.report.specs.Lines.{spaced, text_of, printed}
+use Rattle.network.specs.Words.{spaced}
+use Rattle.report.specs.Lines.{text_of, printed}
 use Rattle.report.specs.declared.line.Line.{Line}
 
 printed_push : (lines : List Line) (line : Line) → printed (lines ++ line ∷ []) ≡ printed lines ++ (text_of line ++ codes "\n")

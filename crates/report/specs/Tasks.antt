@@ -6,7 +6,8 @@ use Rattle.book.specs.declared.call.Answer.{Answer}
 use Rattle.book.specs.declared.call.Answer.TheVariants.{Units, Rounded, Member}
 use Rattle.book.specs.declared.call.Task.{Task}
 use Rattle.report.specs.declared.line.Line.TheVariants.{Fault as Refusal}
-use Rattle.report.specs.Lines.{spaced, text_of}
+use Rattle.network.specs.Words.{spaced}
+use Rattle.report.specs.Lines.{text_of}
 
 abbrev pub call_text : Call → List ℕ
 call_text (Pay debtor creditor units) = spaced (codes "pay") (decimal debtor ∷ decimal creditor ∷ decimal units ∷ [])

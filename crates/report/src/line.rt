@@ -30,14 +30,7 @@ impl fmt::Display for Line {
             Line::Equity(member, units) => write!(f, "equity {member} {units}"),
             Line::Default(member) => write!(f, "default {member}"),
             Line::Rounds(rounds, units, passed) => write!(f, "rounds {rounds} {units} {passed}"),
-            Line::Fault(fault) => {
-                let number = fault.cause.number();
-                let layer = fault.layer.name();
-                let byte = fault.byte;
-                let debtor = fault.debtor;
-                let creditor = fault.creditor;
-                write!(f, "fault {number} {layer} {byte} {debtor} {creditor}")
-            }
+            Line::Fault(fault) => write!(f, "{fault}"),
             Line::TooLong => write!(f, "too long"),
         }
     }

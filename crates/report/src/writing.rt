@@ -1,7 +1,8 @@
 // Lines put behind a text. The lines of a sheet are many, so their numbers are written digit by digit, which
 // is some three times as quick as a format.
 ghost use Rattle.std.specs.Prelude.{◌≡◌, ◌+◌, ◌<◌, [], ◌∷◌, ◌++◌, map, string_bytes, codes, decimal, OnOk};
-ghost use Rattle.report.specs.Lines.{spaced, text_of};
+ghost use Rattle.network.specs.Words.{spaced};
+ghost use Rattle.report.specs.Lines.{text_of};
 
 use crate::line::Line;
 use std::alloc::{AllocError, Global};
