@@ -1,7 +1,6 @@
 -- Lawful rules make the division of a network lawful.
-use Rattle.std.proofs.Common.{◌≡◌, ℕ, zero, suc, ◌+◌, ◌<◌, ◌≤◌, min, List, [], ◌∷◌, length, get_or, sum, sym, refl, ap, ◌∙◌, inl, inr, le_trans, le_of_eq, arith, get_or-take}
-use Rattle.std.proofs.lemmas.List.Sums.{sum_by-cons}
-use Rattle.std.proofs.lemmas.List.{length-take-le, get_or_past}
+use Rattle.std.proofs.Common.{◌≡◌, ℕ, ◌<◌, ◌≤◌, min, List, [], length, get_or, sum, sym, ap, ◌∙◌, inl, inr, le_trans, le_of_eq, le_refl, arith, get_or-take}
+use Rattle.std.proofs.lemmas.List.{length-take-le, get_or_past, take_all}
 use Rattle.std.proofs.lemmas.Bool.{cases_lt}
 use Rattle.network.specs.declared.figures.Figures.{Figures}
 use Rattle.network.specs.Entries.{member_at, claim_at}
@@ -10,14 +9,10 @@ use Rattle.clearing.specs.Networks.{LawfulDivision, total, owed}
 use Rattle.clearing.proofs.Totals.{total_eq}
 use Rattle.book.specs.Tables.{network_of}
 use Rattle.book.specs.Rulebooks.{Meaning, LawfulMeaning, claims_on, division}
-
-total_front : (n : ℕ) (f : ℕ → ℕ) → total (suc n) f ≡ f 0 + total n (λ k. f (suc k))
-total_front zero f = omega arith
-total_front (suc n) f = omega (arith, total_front n f)
+use Rattle.book.proofs.Sums.{sum_total_front}
 
 sum_total : (xs : List ℕ) → sum xs ≡ total (length xs) (λ k. get_or xs k 0)
-sum_total [] = refl
-sum_total (x ∷ xs) = omega (arith, sum_by-cons (λ (y : ℕ). y) x xs, sum_total xs, total_front (length xs) (λ k. get_or (x ∷ xs) k 0))
+sum_total xs = ap sum (sym (take_all (length xs) xs (le_refl (length xs)))) ∙ sum_total_front xs (length xs) (le_refl (length xs))
 
 -- of any of the 32 seats
 module _ (F : Figures) (i : ℕ) (l : i < 32) where

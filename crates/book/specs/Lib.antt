@@ -6,5 +6,6 @@ pub mod Seats
 pub mod Rests
 pub mod Visits
 pub mod Lives
+pub mod Tasks
 pub mod Sheets
 pub mod Examples

@@ -18,6 +18,7 @@ mod seating;
 mod settle;
 mod settlement;
 mod sheet;
+mod text;
 mod visits;
 
 pub use book::Book;

@@ -34,6 +34,7 @@ impl Book {
         ensures works { Works (R.awarded rulebook.now) self.old tasks.new self.new }
         ensures calls { calls_of tasks.new ≡ calls_of tasks.old }
     {
+        // By index: of what iter_mut lends, a proof knows only the length.
         for i in 0..tasks.len() {
             let call = tasks[i].call;
             let answer = self.perform(rulebook, call);
