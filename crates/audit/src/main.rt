@@ -8,7 +8,7 @@ use book::{Sheet, Task, equal_sheets, work_both};
 use netfile::{count, load};
 use network::{Draft, Fault};
 use order::parse_order;
-use report::{Line, TaskLine, sheet_lines};
+use report::{Line, sheet_lines};
 use rules::ring_rulebook;
 use std::{env, fs, io};
 
@@ -38,8 +38,7 @@ fn load_both(file: &[u8], first: &mut Draft, second: &mut Draft) -> Result<(), F
 fn print_tasks(rt: &HostRuntime, name: &str, tasks: &[Task]) -> io::Result<()> {
     println!(rt; "{name}")?;
     for task in tasks {
-        let line = TaskLine(*task);
-        println!(rt; "  {line}")?;
+        println!(rt; "  {task}")?;
     }
     Ok(())
 }

@@ -1,22 +1,28 @@
 -- The cases of the calls that pay.
-use Rattle.std.proofs.Common.{◌≡◌, ℕ, zero, suc, ◌+◌, ◌-◌, ◌<◌, ◌≤◌, Bool, true, false, cond, not, ◌&&◌, ◌||◌, eqb, ltb, leb, List, [], length, get_or, set, Some, None, sym, ap, ◌∙◌, ap₂, inl, inr, le_trans, arith}
+use Rattle.std.proofs.Common.{◌≡◌, ℕ, zero, suc, ◌+◌, ◌-◌, ◌<◌, ◌≤◌, Bool, true, false, cond, not, ◌&&◌, ◌||◌, ◌⊎◌, Option, eqb, ltb, leb, List, [], length, get_or, set, Some, None, Ok, zero-le, sym, refl, ap, ◌∙◌, subst, ap₂, inl, inr, le_trans, arith, length-set}
+use Rattle.std.specs.Option.{MatchOption}
 use Rattle.std.proofs.lemmas.List.{get_or-set_same, get_or-set_other}
-use Rattle.std.proofs.lemmas.Bool.{cases_Bool, cases_eq, cases_lt, both_ways, cond-true, cond-false, eq-eqb, ne_eqb, lt-ltb, le-ltb, lt-leb, and_from, and_left, and_right, or_from, not_from_true, not_from_false}
+use Rattle.std.proofs.lemmas.Bool.{cases_Bool, cases_eq, cases_lt, both_ways, cond_both, cond-true, cond-false, eq-eqb, ne_eqb, lt-ltb, le-ltb, lt-leb, and_from, and_left, and_right, or_from, not_from_true, not_from_false}
 use Rattle.network.specs.declared.fault.Cause.TheVariants.{Receded, AboveDue}
 use Rattle.network.specs.declared.fault.Layer.TheVariants.{Book as BookLayer}
 use Rattle.network.specs.declared.fault.Fault.{Fault}
 use Rattle.network.specs.Faults.{of_member, of_pair}
-use Rattle.clearing.specs.Networks.{any, total}
-use Rattle.clearing.specs.Settling.{settled, paid_more, would_pay, first, or_else}
+use Rattle.clearing.specs.Networks.{Equal, any, total}
+use Rattle.clearing.specs.Settling.{settled, settle, paid_more, would_pay, first, or_else}
 use Rattle.clearing.proofs.Totals.{total_le, total_eq, any_decides}
 use Rattle.clearing.proofs.Moments.{none_first}
-use Rattle.clearing.proofs.Respects.{any_eq, would_pay_test}
+use Rattle.clearing.proofs.Respects.{any_eq, moved_eq, moved_none, would_pay_test}
 use Rattle.book.specs.Tables.{cells, Capped, Solvent}
 use Rattle.book.specs.Rulebooks.{Meaning}
 use Rattle.book.specs.Views.{DueRow, net_of, payments_of, division_of, due_of, receded_in, outlay_of}
-use Rattle.book.specs.Calls.{EntryPaid, RowSettled, settle_fault, pay_fault}
+use Rattle.book.specs.Seats.{IsSeat, Moves}
+use Rattle.book.specs.Calls.{EntryPaid, RowSettled, Settles, settle_fault, pay_fault}
 use Rattle.book.specs.declared.book.Book.{Book}
-use Rattle.book.proofs.Tables.{cells_row, row_kept}
+use Rattle.book.specs.declared.seat.Seat.{Seat}
+use Rattle.book.specs.declared.settlement.Settlement.{Settlement}
+use Rattle.book.proofs.Tables.{cells_row, columns_kept, row_kept}
+use Rattle.book.proofs.Sums.{any_none}
+use Rattle.book.proofs.Outside.{claim_past, column_past}
 
 module _ (A : Meaning) (B : Book) (m : ℕ) (row : List ℕ) (due : DueRow A B m row) where
   pub receded_is : (t : Bool) → t ≡ any B.figures.n (λ j. ltb (get_or row j 0) (payments_of B m j)) → receded_in A B m ≡ t
@@ -66,6 +72,29 @@ module _ (A : Meaning) (B : Book) (m : ℕ) (l : m < B.figures.n) where
           | inr e ↦ cond-false (eqb i m) (get_or row j 0) (payments_of B i j) (ne_eqb i m e) ∙ sym (cond-false (eqb i m) (due_of A B i j) (payments_of B i j) (ne_eqb i m e))
         ]
 
+  -- a row settled is what the call is to do, and keeps the invariants
+  module _ (s : Settlement) (h : Moves A B m s) where
+    high : m < length B.paid
+    high = omega (arith, B.rows, B.figures.few)
+
+    pub moves_settle : {B' : Book} → B'.figures ≡ B.figures → B'.paid ≡ set B.paid m s.row → Settles A B m (Ok s.units) B'
+    moves_settle {B'} same is = (settle_passes h.steady, settle_pays s.row h.due high h.units same is)
+
+    pub moves_columns : (i : ℕ) → i < 32 → length (get_or (set B.paid m s.row) i []) ≡ 32
+    moves_columns = columns_kept B.paid m s.row high h.due.wide B.columns
+
+    pub moves_keep : Capped (net_of B) (cells (set B.paid m s.row)) × Solvent (net_of B) (cells (set B.paid m s.row))
+    moves_keep = row_kept (net_of B) B.paid m s.row high B.capped B.solvent h.more h.due.capped h.due.spent
+
+-- what is known of a seat is known of the member's number in its book
+pub at_seat : (P : Book → ℕ → Type 0) {B : Book} {m : ℕ} (seat : Seat) → IsSeat B m seat → P seat.book.now seat.at → P B m
+at_seat P {B} {m} seat is h = subst (λ (X : Book). P X m) is.0 (subst (λ k. P seat.book.now k) is.1 h)
+
+pub row_told : (A : Meaning) {B : Book} {m : ℕ} (seat : Seat) → IsSeat B m seat → (row : List ℕ) (t : Bool) → DueRow A seat.book.now seat.at row
+    → t ≡ any seat.book.now.figures.n (λ j. ltb (get_or row j 0) (payments_of seat.book.now seat.at j))
+    → DueRow A B m row × (t ≡ any B.figures.n (λ j. ltb (get_or row j 0) (payments_of B m j)))
+row_told A seat is row t due e = (at_seat (λ X k. DueRow A X k row) seat is due, at_seat (λ X k. t ≡ any X.figures.n (λ j. ltb (get_or row j 0) (payments_of X k j))) seat is e)
+
 -- a payment
 module _ (A : Meaning) (B : Book) (d c u : ℕ) (a : d < B.figures.n) (b : c < B.figures.n) (some : 0 < u) where
   members : (leb B.figures.n d || leb B.figures.n c) ≡ false
@@ -88,7 +117,13 @@ module _ (A : Meaning) (B : Book) (d c u : ℕ) (a : d < B.figures.n) (b : c < B
         cond-false _ _ _ members ∙ cond-false (eqb u 0) _ _ (ne_eqb u 0 (λ z. omega arith)) ∙ cond-false (receded_in A B d) _ _ f
         ∙ cond-false (ltb (due_of A B d c - payments_of B d c) u) _ _ (le-ltb (due_of A B d c - payments_of B d c) u (omega (arith, room_is)))
 
-    module _ (wide : d < length B.paid) (broad : c < length (get_or B.paid d [])) (room : u ≤ get_or row c 0 - v) where
+    module _ (room : u ≤ get_or row c 0 - v) where
+      wide : d < length B.paid
+      wide = omega (arith, B.rows, B.figures.few)
+
+      broad : c < length (get_or B.paid d [])
+      broad = omega (arith, B.columns d (omega (arith, B.figures.few)), B.figures.few)
+
       abbrev new : List ℕ
       new = set (get_or B.paid d []) c (v + u)
 
@@ -115,6 +150,9 @@ module _ (A : Meaning) (B : Book) (d c u : ℕ) (a : d < B.figures.n) (b : c < B
             ]
           ]
 
+      pub pay_columns : (i : ℕ) → i < 32 → length (get_or (set B.paid d new) i []) ≡ 32
+      pay_columns = columns_kept B.paid d new wide (length-set (get_or B.paid d []) c (v + u) ∙ B.columns d (omega (arith, B.figures.few))) B.columns
+
       pub pay_kept : ((j : ℕ) → j < B.figures.n → payments_of B d j ≤ get_or row j 0) → Capped (net_of B) (cells (set B.paid d new)) × Solvent (net_of B) (cells (set B.paid d new))
       pay_kept steady =
           row_kept (net_of B) B.paid d new wide B.capped B.solvent
@@ -123,18 +161,47 @@ module _ (A : Meaning) (B : Book) (d c u : ℕ) (a : d < B.figures.n) (b : c < B
           (le_trans (total_le B.figures.n (λ j. get_or new j 0) (λ j. get_or row j 0) (λ j l. elim (cases_eq j c) [ inl q ↦ omega (arith, here j q, ap (λ k. get_or row k 0) q) | inr q ↦ omega (arith, away j q, steady j l) ])) due.spent)
 
 -- whether a settle would pay
-module _ (A : Meaning) (B : Book) (m : ℕ) (l : m < B.figures.n) where
-  pub would_not : receded_in A B m ≡ true → false ≡ would_pay (net_of B) (division_of A B) (payments_of B) m
-  would_not t =
-      sym (would_pay_test (net_of B) (division_of A B) (payments_of B) m l
-      ∙ and_left (not (receded_in A B m)) (any B.figures.n (λ j. not (eqb (payments_of B m j) (due_of A B m j)))) (not_from_true (receded_in A B m) t))
+module _ (A : Meaning) (B : Book) (m : ℕ) where
+  abbrev would : Bool
+  would = would_pay (net_of B) (division_of A B) (payments_of B) m
 
-  pub would : (row : List ℕ) → DueRow A B m row → receded_in A B m ≡ false → (t : Bool) → t ≡ any B.figures.n (λ j. not (eqb (payments_of B m j) (get_or row j 0))) → t ≡ would_pay (net_of B) (division_of A B) (payments_of B) m
-  would row due f t e =
+  -- past the members nothing would
+  past_would : B.figures.n ≤ m → would ≡ false
+  past_would past =
+      let N = net_of B in
       let P = payments_of B in
-      let test : Bool = any B.figures.n (λ j. not (eqb (P m j) (due_of A B m j))) in
-      e ∙ any_eq B.figures.n (λ j. not (eqb (P m j) (get_or row j 0))) (λ j. not (eqb (P m j) (due_of A B m j))) (λ j _. ap (λ x. not (eqb (P m j) x)) (due.value j))
-      ∙ sym (would_pay_test (net_of B) (division_of A B) P m l ∙ ap (λ b. b && test) (not_from_false (receded_in A B m) f))
+      let row = settled N (division_of A B) P m in
+      let same : Equal N (settle N (division_of A B) P m) P =
+      cond_both (receded_in A B m) P row (λ Q. Equal N Q P) (λ _ i j a b. refl) (λ _ i j a b. cond-false (eqb i m) (due_of A B i j) (P i j) (ne_eqb i m (λ e. omega arith))) in
+      moved_eq N P P (settle N (division_of A B) P m) P (λ i j a b. refl) same ∙ moved_none N P
+
+  pub would_not : receded_in A B m ≡ true → false ≡ would
+  would_not t = elim (cases_lt m B.figures.n) [
+    | inl l ↦
+        sym (would_pay_test (net_of B) (division_of A B) (payments_of B) m l
+        ∙ and_left (not (receded_in A B m)) (any B.figures.n (λ j. not (eqb (payments_of B m j) (due_of A B m j)))) (not_from_true (receded_in A B m) t))
+    | inr past ↦ sym (past_would past)
+  ]
+
+  module _ (row : List ℕ) (due : DueRow A B m row) where
+    -- past the members nothing is paid or due
+    pub past_row : (j : ℕ) → B.figures.n ≤ m ⊎ B.figures.n ≤ j → payments_of B m j ≡ get_or row j 0
+    past_row j past =
+        let none : (net_of B).claim m j ≡ 0 = elim past [ inl a ↦ claim_past B.figures m j a | inr b ↦ column_past B.figures m j b ] in
+        omega (arith, B.capped m j, due.capped j)
+
+    pub would_if : receded_in A B m ≡ false → (t : Bool) → t ≡ any B.figures.n (λ j. not (eqb (payments_of B m j) (get_or row j 0))) → t ≡ would
+    would_if f t e = elim (cases_lt m B.figures.n) [
+      | inl l ↦
+          (let P = payments_of B in
+          let test : Bool = any B.figures.n (λ j. not (eqb (P m j) (due_of A B m j))) in
+          e ∙ any_eq B.figures.n (λ j. not (eqb (P m j) (get_or row j 0))) (λ j. not (eqb (P m j) (due_of A B m j))) (λ j _. ap (λ x. not (eqb (P m j) x)) (due.value j))
+          ∙ sym (would_pay_test (net_of B) (division_of A B) P m l ∙ ap (λ b. b && test) (not_from_false (receded_in A B m) f)))
+      | inr past ↦
+          (let none : any B.figures.n (λ j. not (eqb (payments_of B m j) (get_or row j 0))) ≡ false =
+          any_none B.figures.n (λ j. not (eqb (payments_of B m j) (get_or row j 0))) (λ j _. not_from_true _ (eq-eqb _ _ (past_row j (inl past)))) in
+          e ∙ none ∙ sym (past_would past))
+    ]
 
 -- the first that passes
 pub first_found : (test : ℕ → Bool) (n m : ℕ) → m < n → any m test ≡ false → test m ≡ true → Some m ≡ first n test
@@ -148,3 +215,9 @@ first_found test (suc n) m l none t =
           let yes : test n ≡ true = ap test e ∙ t in
           ap Some (sym e) ∙ sym (ap₂ or_else no (cond-true (test n) (Some n) None yes)))
     ]
+
+-- the same, as a search of 0 to n - 1 finds it
+pub first_is : (test : ℕ → Bool) (n : ℕ) (r : Option ℕ)
+    → MatchOption r ((k : ℕ) → 0 ≤ k → k < n → test k ≡ false) (λ i. (0 ≤ i) × (i < n) × (test i ≡ true) × ((k : ℕ) → 0 ≤ k → k < i → test k ≡ false)) → r ≡ first n test
+first_is test n None none = sym (none_first test n (any_none n test (λ k l. none k zero-le l)))
+first_is test n (Some m) (_, l, t, before) = first_found test n m l (any_none m test (λ k l. before k zero-le l)) t

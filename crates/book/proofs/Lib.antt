@@ -1,4 +1,6 @@
 pub mod Tables
+pub mod Sums
+pub mod Making
 pub mod Lawful
 pub mod Cases
 pub mod Turning

@@ -204,11 +204,11 @@ module _ (A : Meaning) (one two : Draft) (s : EqualDrafts one two) where
   same_claims i a =
       let F = one.figures in
       let F' = two.figures in
-      let a' : i < F'.n = omega (arith, s.members) in
-      ext_get_or 0 (claims_on F i) (claims_on F' i) (claims_length F i a ∙ s.members ∙ sym (claims_length F' i a'))
+      let l : i < 32 = omega (arith, F.few) in
+      ext_get_or 0 (claims_on F i) (claims_on F' i) (claims_length F i l ∙ s.members ∙ sym (claims_length F' i l))
       (λ k b.
-      let b' : k < F.n = omega (arith, claims_length F i a) in
-      claims_at F i a k b' ∙ s.claims i k a b' ∙ sym (claims_at F' i a' k (omega (arith, s.members))))
+      let b' : k < F.n = omega (arith, claims_length F i l) in
+      claims_at F i l k b' ∙ s.claims i k a b' ∙ sym (claims_at F' i l k (omega (arith, s.members))))
 
   same_division : Same (network_of one.figures) (network_of two.figures) (division A one.figures) (division A two.figures)
   same_division =

@@ -1,19 +1,20 @@
 -- Tables as lists of rows: what stands in one after a write, and what is kept.
-use Rattle.std.proofs.Common.{◌≡◌, ℕ, zero, suc, ◌+◌, ◌-◌, ◌<◌, ◌≤◌, cond, eqb, List, [], ◌∷◌, ◌++◌, length, get_or, take, drop, set, replicate, Result, sym, refl, ap, ◌∙◌, inl, inr, le_trans, le_of_eq, arith}
-use Rattle.std.proofs.lemmas.List.{get_or-set_same, get_or-set_other, get_or_past, length-take-le, drop-replicate}
+use Rattle.std.proofs.Common.{◌≡◌, ℕ, zero, suc, ◌+◌, ◌-◌, ◌<◌, ◌≤◌, cond, eqb, List, [], ◌∷◌, ◌++◌, length, get_or, take, drop, set, replicate, sum_by, Result, sym, refl, ap, ◌∙◌, inl, inr, le_trans, le_of_eq, arith}
+use Rattle.std.proofs.lemmas.List.{get_or-set_same, get_or-set_other, get_or_past, length-append, length-take-le, length-drop, drop-replicate}
 use Rattle.std.proofs.lemmas.Bool.{cases_eq, cases_lt, cond-true, cond-false, eq-eqb, ne_eqb}
 use Rattle.network.specs.declared.fault.Fault.{Fault}
 use Rattle.network.specs.Entries.{member_at}
 use Rattle.network.specs.Answers.{Gives}
 use Rattle.rules.specs.Claims.{awards_fault}
 use Rattle.rules.proofs.Acceptance.{filled}
-use Rattle.clearing.specs.Networks.{Network, LawfulDivision, AtMost, total, estate}
+use Rattle.clearing.specs.Networks.{Network, AtMost, total, estate}
 use Rattle.clearing.proofs.Totals.{total_le, total_eq, total_none, total_cap}
 use Rattle.book.specs.Tables.{cells, Capped, Solvent}
 use Rattle.book.specs.Rulebooks.{Meaning, LawfulMeaning, claims_on}
-use Rattle.book.specs.Views.{DueRow, net_of, payments_of, division_of, due_of, estate_of}
+use Rattle.book.specs.Views.{DueRow, net_of, payments_of, due_of, estate_of}
 use Rattle.book.specs.declared.book.Book.{Book}
-use Rattle.book.proofs.Lawful.{claims_length, claims_admitted, awards_length, division_lawful}
+use Rattle.book.proofs.Sums.{sum_by_total}
+use Rattle.book.proofs.Lawful.{claims_length, claims_admitted, awards_length, all_awarded, none_above}
 
 pub entry_cap : (B : Book) (i j : ℕ) → payments_of B i j ≤ 10000
 entry_cap B i j = le_trans (B.capped i j) (B.figures.small i j)
@@ -21,12 +22,25 @@ entry_cap B i j = le_trans (B.capped i j) (B.figures.small i j)
 pub estate_cap : (B : Book) (m k : ℕ) → k ≤ 32 → (net_of B).endowment m + total k (λ i. payments_of B i m) ≤ 1320000
 estate_cap B m k few = omega (arith, total_cap k (λ i. payments_of B i m) 10000 (λ i _. entry_cap B i m), (B.figures.fit m).1)
 
+-- what was paid to a member, row by row
+pub column_is : (B : Book) (m : ℕ) → B.figures.n ≤ length B.paid → sum_by (λ (row : List ℕ). get_or row m 0) (take B.figures.n B.paid) ≡ total B.figures.n (λ k. payments_of B k m)
+column_is B m wide = sum_by_total (λ (row : List ℕ). get_or row m 0) [] B.paid B.figures.n wide
+
 -- a row written
 pub cells_row : (rows : List (List ℕ)) (m : ℕ) (row : List ℕ) → m < length rows → (i j : ℕ) → cells (set rows m row) i j ≡ cond (eqb i m) (get_or row j 0) (cells rows i j)
 cells_row rows m row l i j =
     elim (cases_eq i m) [
       | inl e ↦ ap (λ k. get_or (get_or (set rows m row) k []) j 0) e ∙ ap (λ (r : List ℕ). get_or r j 0) (get_or-set_same rows m row [] l) ∙ sym (cond-true (eqb i m) (get_or row j 0) (cells rows i j) (eq-eqb i m e))
       | inr e ↦ ap (λ (r : List ℕ). get_or r j 0) (get_or-set_other rows m i row [] e) ∙ sym (cond-false (eqb i m) (get_or row j 0) (cells rows i j) (ne_eqb i m e))
+    ]
+
+-- rows stay as wide as they were
+pub columns_kept : (rows : List (List ℕ)) (m : ℕ) (row : List ℕ) → m < length rows → length row ≡ 32 → ((i : ℕ) → i < 32 → length (get_or rows i []) ≡ 32)
+    → (i : ℕ) → i < 32 → length (get_or (set rows m row) i []) ≡ 32
+columns_kept rows m row l wide h i b =
+    elim (cases_eq i m) [
+      | inl e ↦ ap (λ k. length (get_or (set rows m row) k [])) e ∙ ap length (get_or-set_same rows m row [] l) ∙ wide
+      | inr e ↦ ap length (get_or-set_other rows m i row [] e) ∙ h i b
     ]
 
 pub get_or_zeros : (n k : ℕ) → get_or {A = ℕ} (replicate n 0) k 0 ≡ 0
@@ -40,7 +54,7 @@ get_or_padded (x ∷ xs) m zero = refl
 get_or_padded (x ∷ xs) m (suc k) = get_or_padded xs m k
 
 -- what the rulebook writes into a row of zeros is the due row
-module _ (A : Meaning) (law : LawfulMeaning A) (B : Book) (m : ℕ) (l : m < B.figures.n) where
+module _ (A : Meaning) (law : LawfulMeaning A) (B : Book) (m : ℕ) (l : m < 32) where
   abbrev n : ℕ
   n = B.figures.n
 
@@ -51,39 +65,29 @@ module _ (A : Meaning) (law : LawfulMeaning A) (B : Book) (m : ℕ) (l : m < B.f
   zeros = replicate 32 0
 
   pub due_row_is : (out : List ℕ) (r : Result (Unit {0}) Fault) (E : ℕ) → E ≡ estate_of B m
-      → Gives (awards_fault (take (n - 0) (get_or B.figures.claims m [])) (length (take (n - 0) zeros)))
-      (λ _. out ≡ A house E (take (n - 0) (get_or B.figures.claims m []))) (out ≡ take (n - 0) zeros) r
-      → DueRow A B m (out ++ drop (n - 0) zeros)
+      → Gives (awards_fault (claims_on B.figures m) (length (take n zeros))) (λ _. out ≡ A house E (claims_on B.figures m)) (out ≡ take n zeros) r
+      → DueRow A B m (out ++ drop n zeros)
   due_row_is out r E worth answer =
       record {
+        wide = omega (arith, length-append out (drop n zeros), ap length is, awards_length A law B.figures m (estate_of B m) l, length-drop n zeros, B.figures.few);
         value = value;
         capped = λ j. elim (cases_lt j n) [
-          | inl s ↦ le_trans (le_of_eq (value j)) (lawful.capped m (estate_of B m) j l s)
+          | inl s ↦ le_trans (le_of_eq (value j)) (none_above A law B.figures m (estate_of B m) j l s)
           | inr s ↦ omega (arith, value j, get_or_past (A house (estate_of B m) (claims_on B.figures m)) j 0 (omega (arith, awards_length A law B.figures m (estate_of B m) l)))
         ];
-        spent = omega (arith, total_eq n (λ j. get_or (out ++ drop (n - 0) zeros) j 0) (due_of A B m) (λ j _. value j), lawful.exhausts m (estate_of B m) l);
+        spent = omega (arith, total_eq n (λ j. get_or (out ++ drop n zeros) j 0) (due_of A B m) (λ j _. value j), all_awarded A law B.figures m (estate_of B m) l);
       }
     where
-      lawful : LawfulDivision (net_of B) (division_of A B)
-      lawful = division_lawful A law B.figures
-
-      all : n - 0 ≡ n
-      all = omega arith
-
-      asked : take (n - 0) (get_or B.figures.claims m []) ≡ claims_on B.figures m
-      asked = ap (λ k. take k (get_or B.figures.claims m [])) all
-
       is : out ≡ A house (estate_of B m) (claims_on B.figures m)
       is =
-          filled (take (n - 0) (get_or B.figures.claims m [])) (length (take (n - 0) zeros)) r (A house E (take (n - 0) (get_or B.figures.claims m []))) (take (n - 0) zeros) out
-          (rw asked (claims_admitted B.figures m l))
-          (length-take-le (n - 0) zeros (omega (arith, B.figures.few)) ∙ all ∙ sym (ap length asked ∙ claims_length B.figures m l)) answer
-          ∙ ap (λ xs. A house E xs) asked ∙ ap (λ e. A house e (claims_on B.figures m)) worth
+          filled (claims_on B.figures m) (length (take n zeros)) r (A house E (claims_on B.figures m)) (take n zeros) out (claims_admitted B.figures m l)
+          (length-take-le n zeros (omega (arith, B.figures.few)) ∙ sym (claims_length B.figures m l)) answer
+          ∙ ap (λ e. A house e (claims_on B.figures m)) worth
 
-      value : (j : ℕ) → get_or (out ++ drop (n - 0) zeros) j 0 ≡ due_of A B m j
+      value : (j : ℕ) → get_or (out ++ drop n zeros) j 0 ≡ due_of A B m j
       value j =
-          ap (λ xs. get_or (out ++ xs) j 0) (drop-replicate {X = ℕ} (n - 0) 32 0)
-          ∙ get_or_padded out (32 - (n - 0)) j ∙ ap (λ xs. get_or xs j 0) is
+          ap (λ xs. get_or (out ++ xs) j 0) (drop-replicate {X = ℕ} n 32 0)
+          ∙ get_or_padded out (32 - n) j ∙ ap (λ xs. get_or xs j 0) is
 
 -- a table of zeros
 pub no_cells : (m n k j : ℕ) → cells (replicate m (replicate n 0)) k j ≡ 0

@@ -64,7 +64,7 @@ module _ (draft : Draft) (es : List ℕ) (cs : List (List ℕ)) (h : Holds draft
   -- i divides its estate over the row of claims, by the rule of house 0
   divides_is : (A : Meaning) (i E j : ℕ) → i < length es → length (get_or cs i []) ≡ length es → division A F i E j ≡ get_or (A 0 E (get_or cs i [])) j 0
   divides_is A i E j l wide =
-      let a : i < F.n = omega (arith, h.count) in
+      let a : i < 32 = omega (arith, h.count, F.few) in
       let row : claims_on F i ≡ get_or cs i [] =
       ext_get_or 0 (claims_on F i) (get_or cs i []) (claims_length F i a ∙ h.count ∙ sym wide)
       (λ k b. claims_at F i a k (omega (arith, claims_length F i a)) ∙ h.claims_are i k) in

@@ -2,8 +2,10 @@ pub mod Tables
 pub mod Rulebooks
 pub mod Views
 pub mod Calls
+pub mod Seats
 pub mod Rests
 pub mod Visits
 pub mod Lives
+pub mod Tasks
 pub mod Sheets
 pub mod Examples

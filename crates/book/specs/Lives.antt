@@ -1,6 +1,6 @@
 -- The lives of books: open, calls in any order, refused ones among them, and close; and the theorem that which calls
 -- are made, and in what order, decides nothing.
-use Rattle.std.specs.Prelude.{◌≡◌, ℕ, ◌+◌, ◌<◌, ◌≤◌, false, cond, ◌↔◌, List, [], ◌∷◌, map, take, Some, None, Ok, Err, Option, Result, slice_index, slice_index_or}
+use Rattle.std.specs.Prelude.{◌≡◌, ℕ, ◌+◌, ◌<◌, ◌≤◌, false, cond, ◌↔◌, List, [], ◌∷◌, map, take, Some, None, Option, Result, slice_index, slice_index_or}
 use Rattle.network.specs.declared.fault.Fault.{Fault}
 use Rattle.network.specs.declared.draft.Draft.{Draft}
 use Rattle.network.specs.Entries.{member_at, claim_at}
@@ -16,21 +16,17 @@ use Rattle.book.specs.declared.sheet.Sheet.{Sheet}
 use Rattle.book.specs.declared.call.Call.{Call}
 use Rattle.book.specs.declared.call.Call.TheVariants.{Pay, Settle, Round, Paid, Cash, Due, Next}
 use Rattle.book.specs.declared.call.Answer.{Answer}
-use Rattle.book.specs.declared.call.Answer.TheVariants.{Refused, Units, Rounded, Member}
+use Rattle.book.specs.declared.call.Answer.TheVariants.{Units, Rounded, Member}
 use Rattle.book.specs.declared.call.Task.{Task}
-
-abbrev pub units_or_fault : Result ℕ Fault → Answer
-units_or_fault (Ok units) = Units units
-units_or_fault (Err fault) = Refused fault
 
 -- one call and its answer, by what the call's own contract says; a question leaves the book as it was
 abbrev pub Step : Meaning → Book → Call → Answer → Book → Type 0
-Step A B (Pay d c u) a B' = (r : Result ℕ Fault) × (a ≡ units_or_fault r) × Pays A B d c u r B'
-Step A B (Settle m) a B' = (r : Result ℕ Fault) × (a ≡ units_or_fault r) × Settles A B m r B'
+Step A B (Pay d c u) a B' = (r : Result ℕ Fault) × (a ≡ Units r) × Pays A B d c u r B'
+Step A B (Settle m) a B' = (r : Result ℕ Fault) × (a ≡ Units r) × Settles A B m r B'
 Step A B Round a B' = (r : ℕ × ℕ) × (a ≡ Rounded r.0 r.1) × GoesRound A B r B'
-Step A B (Paid d c) a B' = (r : Result ℕ Fault) × (a ≡ units_or_fault r) × ShowsPaid B d c r × (B' ≡ B)
-Step A B (Cash m) a B' = (r : Result ℕ Fault) × (a ≡ units_or_fault r) × ShowsCash B m r × (B' ≡ B)
-Step A B (Due d c) a B' = (r : Result ℕ Fault) × (a ≡ units_or_fault r) × ShowsDue A B d c r × (B' ≡ B)
+Step A B (Paid d c) a B' = (r : Result ℕ Fault) × (a ≡ Units r) × ShowsPaid B d c r × (B' ≡ B)
+Step A B (Cash m) a B' = (r : Result ℕ Fault) × (a ≡ Units r) × ShowsCash B m r × (B' ≡ B)
+Step A B (Due d c) a B' = (r : Result ℕ Fault) × (a ≡ Units r) × ShowsDue A B d c r × (B' ≡ B)
 Step A B Next a B' = (r : Option ℕ) × (a ≡ Member r) × ShowsNext A B r × (B' ≡ B)
 
 -- tasks made one after another, each with its answer noted

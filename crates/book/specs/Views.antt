@@ -1,5 +1,5 @@
 -- A book as the mathematics sees it.
-use Rattle.std.specs.Prelude.{◌≡◌, ℕ, ◌≤◌, Bool, List, slice_index}
+use Rattle.std.specs.Prelude.{◌≡◌, ℕ, ◌≤◌, Bool, List, length, slice_index}
 use Rattle.clearing.specs.Networks.{Network, Division, Payments, total, estate, outlay, cash, due}
 use Rattle.clearing.specs.Settling.{receded}
 use Rattle.book.specs.Tables.{cells, network_of}
@@ -32,6 +32,7 @@ receded_in A B = receded (net_of B) (division_of A B) (payments_of B)
 
 -- a list that holds the due row of member m, which its claims cap and its estate pays
 pub record DueRow (A : Meaning) (B : Book) (m : ℕ) (row : List ℕ) : Type 0 where
+  pub wide : length row ≡ 32
   pub value : (j : ℕ) → slice_index row j ≡ due_of A B m j
   pub capped : (j : ℕ) → slice_index row j ≤ (net_of B).claim m j
   pub spent : total (net_of B).members (λ j. slice_index row j) ≤ estate_of B m

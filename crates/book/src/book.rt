@@ -1,4 +1,5 @@
 // The book: a network's figures and what is paid so far.
+ghost use Rattle.std.specs.Prelude.{◌≡◌, ℕ, ◌<◌, [], length, slice_index_or};
 ghost use Rattle.book.specs.Tables.{Capped, Solvent, cells, network_of};
 
 use network::Figures;
@@ -9,6 +10,8 @@ use network::Figures;
 pub struct Book {
     pub(crate) figures: Figures,
     pub(crate) paid: [[u32; 32]; 32],
+    ghost rows: { length paid ≡ 32 },
+    ghost columns: { (i : ℕ) → i < 32 → length (slice_index_or paid i []) ≡ 32 },
     ghost capped: { Capped (network_of figures) (cells paid) },
     ghost solvent: { Solvent (network_of figures) (cells paid) },
 }

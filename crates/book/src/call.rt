@@ -21,8 +21,8 @@ pub enum Call {
 // What a call answered.
 #[derive(Clone, Copy)]
 pub enum Answer {
-    Refused(Fault),
-    Units(u32),
+    // units, or why the call was refused
+    Units(Result<u32, Fault>),
     // the units that a round moved, and the members that it passed over
     Rounded(u32, u8),
     // the member whose settle would pay, if any

@@ -1,12 +1,11 @@
 // Closing a book.
-ghost use Rattle.std.specs.Prelude.{◌≡◌, ℕ, ◌<◌, false, nat_lt, slice_index, slice_index_or};
+ghost use Rattle.std.specs.Prelude.{◌≡◌, ℕ, false, nat_lt, slice_index, slice_index_or};
 ghost use Rattle.clearing.specs.Networks.{owed};
 ghost use Rattle.book.specs.Calls.{Ends};
 ghost use Rattle.book.specs.Lives.{WhateverTheOrder};
 ghost use Rattle.book.specs.Views.{cash_of, net_of, outlay_of};
 
 use crate::book::Book;
-use crate::rows::row_total;
 use crate::sheet::Sheet;
 use rules::Rulebook;
 
@@ -15,30 +14,14 @@ impl Book {
     fn equities(&self) -> [u32; 32]
         ensures { (i : ℕ) → slice_index result i ≡ cash_of self.now i }
     {
-        let mut equities = [0; 32];
-        for i in 0..self.figures.n as usize {
-            equities[i] = self.estate(i) - self.outlay(i);
-        }
-        equities
-    }
-
-    // Whether a member has paid in total less than the claims on it.
-    fn defaults_at(&self, member: usize) -> bool
-        requires { member < self.now.figures.n }
-        ensures { result ≡ nat_lt (outlay_of self.now member) (owed (net_of self.now) member) }
-    {
-        self.outlay(member) < row_total(&self.figures.claims[member], self.figures.n)
+        std::array::from_fn(|at| self.seat(at).cash())
     }
 
     // Which members default, none past them.
     fn defaults(&self) -> [bool; 32]
         ensures { (i : ℕ) → slice_index_or result i false ≡ nat_lt (outlay_of self.now i) (owed (net_of self.now) i) }
     {
-        let mut defaults = [false; 32];
-        for i in 0..self.figures.n as usize {
-            defaults[i] = self.defaults_at(i);
-        }
-        defaults
+        std::array::from_fn(|at| self.seat(at).defaults())
     }
 
     // Does rounds until one moves nothing, and answers the sheet. It uses up the book. Whatever calls

@@ -1,22 +1,12 @@
 // Whole lives of books: open, any calls in any order, and close.
 ghost use Rattle.std.specs.Prelude.{◌≡◌};
-ghost use Rattle.book.specs.Lives.{BothLives, Step, Works, calls_of, units_or_fault};
+ghost use Rattle.book.specs.Lives.{BothLives, Step, Works, calls_of};
 
 use crate::book::Book;
 use crate::call::{Answer, Call, Task};
 use crate::sheet::Sheet;
-use network::{Draft, Fault};
+use network::Draft;
 use rules::Rulebook;
-
-// The answer of a call that may be refused.
-fn units_or_fault(res: Result<u32, Fault>) -> Answer
-    ensures { result ≡ units_or_fault res }
-{
-    match res {
-        Ok(units) => Answer::Units(units),
-        Err(fault) => Answer::Refused(fault),
-    }
-}
 
 impl Book {
     // Makes one call.
@@ -24,17 +14,17 @@ impl Book {
         ensures { Step (R.awarded rulebook.now) self.old call result self.new }
     {
         match call {
-            Call::Pay(debtor, creditor, units) => units_or_fault(self.pay(
-                rulebook, debtor, creditor, units,
-            )),
-            Call::Settle(member) => units_or_fault(self.settle(rulebook, member)),
+            Call::Pay(debtor, creditor, units) => {
+                Answer::Units(self.pay(rulebook, debtor, creditor, units))
+            }
+            Call::Settle(member) => Answer::Units(self.settle(rulebook, member)),
             Call::Round => {
                 let (units, passed) = self.round(rulebook);
                 Answer::Rounded(units, passed)
             }
-            Call::Paid(debtor, creditor) => units_or_fault(self.paid(debtor, creditor)),
-            Call::Cash(member) => units_or_fault(self.cash(member)),
-            Call::Due(debtor, creditor) => units_or_fault(self.due(rulebook, debtor, creditor)),
+            Call::Paid(debtor, creditor) => Answer::Units(self.paid(debtor, creditor)),
+            Call::Cash(member) => Answer::Units(self.cash(member)),
+            Call::Due(debtor, creditor) => Answer::Units(self.due(rulebook, debtor, creditor)),
             Call::Next => Answer::Member(self.next(rulebook)),
         }
     }
@@ -44,6 +34,7 @@ impl Book {
         ensures works { Works (R.awarded rulebook.now) self.old tasks.new self.new }
         ensures calls { calls_of tasks.new ≡ calls_of tasks.old }
     {
+        // By index: of what iter_mut lends, a proof knows only the length.
         for i in 0..tasks.len() {
             let call = tasks[i].call;
             let answer = self.perform(rulebook, call);

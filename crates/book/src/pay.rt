@@ -16,17 +16,15 @@ impl Book {
     ) -> Result<u32, Fault>
         ensures { Pays (R.awarded rulebook.now) self.old debtor creditor units result self.new }
     {
-        if debtor >= self.figures.n || creditor >= self.figures.n {
-            return Err(Fault::of_pair(Layer::Book, Cause::NoSuchMember, debtor, creditor));
-        }
+        let (payer, payee) = self.pair(debtor, creditor)?;
         if units == 0 {
             return Err(Fault::of_pair(Layer::Book, Cause::NoUnits, debtor, creditor));
         }
-        let due = self.due_row(rulebook, debtor as usize);
-        if self.recedes(&due, debtor as usize) {
+        let due = payer.due_row(rulebook, payer.estate());
+        if payer.recedes(&due) {
             return Err(Fault::of_pair(Layer::Book, Cause::Receded, debtor, creditor));
         }
-        let paid = self.entry(debtor as usize, creditor as usize);
+        let paid = payer.paid_to(payee);
         if units > due[creditor as usize] - paid {
             return Err(Fault::of_pair(Layer::Book, Cause::AboveDue, debtor, creditor));
         }

@@ -4,7 +4,7 @@ ghost use Rattle.book.specs.Rests.{Rests};
 ghost use Rattle.book.specs.Visits.{Kept};
 
 use crate::book::Book;
-use crate::visits::Visits;
+use crate::visits::Tally;
 use rules::Rulebook;
 
 impl Book {
@@ -13,20 +13,20 @@ impl Book {
     pub fn round<R: Rulebook>(&mut self, rulebook: &R) -> (u32, u8)
         ensures { GoesRound (R.awarded rulebook.now) self.old result self.new }
     {
-        let mut visits = self.no_visits();
-        self.visit_all(rulebook, &mut visits)
+        let mut tallies = self.no_visits();
+        self.visit_all(rulebook, &mut tallies)
     }
 
     // The same by visits, which leave alone whom no change concerns since its last visit.
-    fn visit_all<R: Rulebook>(&mut self, rulebook: &R, visits: &mut Visits) -> (u32, u8)
-        requires { Kept (R.awarded rulebook.now) self.old visits.old }
+    fn visit_all<R: Rulebook>(&mut self, rulebook: &R, tallies: &mut [Tally; 32]) -> (u32, u8)
+        requires { Kept (R.awarded rulebook.now) self.old tallies.old }
         ensures round { GoesRound (R.awarded rulebook.now) self.old result self.new }
-        ensures kept { Kept (R.awarded rulebook.now) self.new visits.new }
+        ensures kept { Kept (R.awarded rulebook.now) self.new tallies.new }
     {
         let mut units = 0;
         let mut passed = 0;
         for m in 0..self.figures.n {
-            match self.visit(rulebook, visits, m) {
+            match self.visit(rulebook, tallies, m) {
                 Some(moved) => units += moved,
                 None => passed += 1,
             }
@@ -39,11 +39,11 @@ impl Book {
     pub(crate) fn come_to_rest<R: Rulebook>(&mut self, rulebook: &R) -> (u32, u32, u8)
         ensures { Rests (R.awarded rulebook.now) self.old result.0 result.1 result.2 self.new }
     {
-        let mut visits = self.no_visits();
+        let mut tallies = self.no_visits();
         let mut rounds = 0;
         let mut units = 0;
         loop {
-            let (moved, passed) = self.visit_all(rulebook, &mut visits);
+            let (moved, passed) = self.visit_all(rulebook, &mut tallies);
             if moved == 0 {
                 return (rounds, units, passed);
             }

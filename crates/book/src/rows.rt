@@ -1,10 +1,17 @@
-// One member's row of payments, its column, and its due row.
-ghost use Rattle.std.specs.Prelude.{◌≡◌, ℕ, ◌<◌, ◌≤◌, [], length, nat_lt, slice_index, slice_index_or};
-ghost use Rattle.clearing.specs.Networks.{any, total};
-ghost use Rattle.book.specs.Views.{DueRow, estate_of, outlay_of, payments_of};
+// A member's row of payments and its column, and what they come to.
+ghost use Rattle.std.specs.Prelude.{◌≡◌, ℕ, ◌<◌, ◌≤◌, ◌^◌, [], sum, sum_by, nat_lt, slice_index, slice_index_or};
+ghost use Rattle.clearing.specs.Networks.{owed, total};
+ghost use Rattle.book.specs.Views.{cash_of, estate_of, net_of, outlay_of, payments_of};
 
-use crate::book::Book;
-use rules::Rulebook;
+use crate::seat::Seat;
+
+// All entries of a row together.
+fn sum_of(row: &[u32]) -> u32
+    requires { sum row.now < 2 ^ 32 }
+    ensures { result ≡ sum row.now }
+{
+    row.iter().sum()
+}
 
 // The first n entries of a row together.
 pub(crate) fn row_total(row: &[u32; 32], n: u8) -> u32
@@ -12,91 +19,61 @@ pub(crate) fn row_total(row: &[u32; 32], n: u8) -> u32
     requires small { (j : ℕ) → slice_index row.now j ≤ 10000 }
     ensures { result ≡ total n (λ j. slice_index row.now j) }
 {
-    let mut sum = 0;
-    for j in 0..n as usize {
-        sum += row[j];
-    }
-    sum
+    sum_of(&row[..n as usize])
 }
 
-// One entry of a row, which is 32 wide.
-fn entry_of(row: &[u32; 32], at: usize) -> u32
-    requires { at < 32 }
-    ensures value { result ≡ slice_index row.now at }
-    ensures wide { length row.now ≡ 32 }
+// The entries of a column together.
+fn column_of(rows: &[[u32; 32]], at: usize) -> u32
+    requires inside { at < 32 }
+    requires fits { sum_by (λ row. slice_index row at) rows.now < 2 ^ 32 }
+    ensures { result ≡ sum_by (λ row. slice_index row at) rows.now }
 {
-    row[at]
+    rows.iter().map(|row| row[at]).sum()
 }
 
-impl Book {
-    // What a debtor has paid a creditor.
-    pub(crate) fn entry(&self, debtor: usize, creditor: usize) -> u32
-        requires debtor { debtor < self.now.figures.n }
-        requires creditor { creditor < self.now.figures.n }
-        ensures value { result ≡ payments_of self.now debtor creditor }
-        ensures wide { length (slice_index_or self.now.paid debtor []) ≡ 32 }
+impl<'a> Seat<'a> {
+    // What the member has paid each creditor.
+    pub(crate) fn row(&self) -> &'a [u32; 32]
+        ensures { result.now ≡ slice_index_or self.now.book.now.paid self.now.at [] }
     {
-        entry_of(&self.paid[debtor], creditor)
+        &self.book.paid[self.at]
     }
 
-    // A member's endowment and all that was paid to it.
-    pub(crate) fn estate(&self, member: usize) -> u32
-        requires { member < self.now.figures.n }
-        ensures value { result ≡ estate_of self.now member }
+    // What the member has paid a creditor.
+    pub(crate) fn paid_to(&self, creditor: Seat) -> u32
+        ensures { result ≡ payments_of self.now.book.now self.now.at creditor.entry.at }
+    {
+        self.row()[creditor.at]
+    }
+
+    // Its endowment and all that was paid to it.
+    pub(crate) fn estate(&self) -> u32
+        ensures value { result ≡ estate_of self.now.book.now self.now.at }
         ensures bound { result ≤ 1320000 }
     {
-        let mut sum = self.figures.members[member].endowment;
-        for k in 0..self.figures.n as usize {
-            sum += self.paid[k][member];
-        }
-        sum
+        let n = self.book.figures.n as usize;
+        let received = column_of(&self.book.paid[..n], self.at);
+        self.book.figures.members[self.at].endowment + received
     }
 
-    // All that a member has paid.
-    pub(crate) fn outlay(&self, member: usize) -> u32
-        requires { member < self.now.figures.n }
-        ensures { result ≡ outlay_of self.now member }
+    // All that it has paid.
+    pub(crate) fn outlay(&self) -> u32
+        ensures { result ≡ outlay_of self.now.book.now self.now.at }
     {
-        row_total(&self.paid[member], self.figures.n)
+        row_total(self.row(), self.book.figures.n)
     }
 
-    // What the rulebook awards each creditor of a member's estate, which the caller has.
-    pub(crate) fn due_row_of<R: Rulebook>(
-        &self,
-        rulebook: &R,
-        member: usize,
-        estate: u32,
-    ) -> [u32; 32]
-        requires member { member < self.now.figures.n }
-        requires worth { estate ≡ estate_of self.now member }
-        ensures { DueRow (R.awarded rulebook.now) self.now member result }
+    // What it has left.
+    pub(crate) fn cash(&self) -> u32
+        ensures { result ≡ cash_of self.now.book.now self.now.at }
     {
-        let mut row = [0u32; 32];
-        let n = self.figures.n as usize;
-        let house = self.figures.members[member].house;
-        let claims = &self.figures.claims[member][0..n];
-        let _ = rulebook.awards(house, estate, claims, &mut row[0..n]);
-        row
+        self.estate() - self.outlay()
     }
 
-    // What the rulebook awards each creditor of a member's estate.
-    pub(crate) fn due_row<R: Rulebook>(&self, rulebook: &R, member: usize) -> [u32; 32]
-        requires { member < self.now.figures.n }
-        ensures { DueRow (R.awarded rulebook.now) self.now member result }
+    // Whether it has paid in total less than the claims on it.
+    pub(crate) fn defaults(&self) -> bool
+        ensures { result ≡ nat_lt (outlay_of self.now.book.now self.now.at) (owed (net_of self.now.book.now) self.now.at) }
     {
-        self.due_row_of(rulebook, member, self.estate(member))
-    }
-
-    // Whether an entry of a member's row is above what its due row has there.
-    pub(crate) fn recedes(&self, due: &[u32; 32], member: usize) -> bool
-        requires { member < self.now.figures.n }
-        ensures { result ≡ any self.now.figures.n (λ j. nat_lt (slice_index due.now j) (payments_of self.now member j)) }
-    {
-        for j in 0..self.figures.n as usize {
-            if due[j] < self.paid[member][j] {
-                return true;
-            }
-        }
-        false
+        self.outlay() < row_total(&self.book.figures.claims[self.at], self.book.figures.n)
     }
 }

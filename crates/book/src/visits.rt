@@ -2,13 +2,13 @@
 // What a settle does depends on the member's row and estate. Its row is as its last visit left it, since
 // only its own settle writes it; so at the estate of that visit a settle would move nothing, or pass the
 // member over again (`stays_settled` and `stays_receded` of proofs/Visiting.antt).
-ghost use Rattle.std.specs.Prelude.{◌≡◌, ℕ, ◌+◌, ◌-◌, ◌<◌, ◌≤◌, slice_index};
+ghost use Rattle.std.specs.Prelude.{◌≡◌, ℕ, ◌<◌, ◌≤◌, slice_index};
 ghost use Rattle.book.specs.Calls.{Settles};
 ghost use Rattle.book.specs.Rulebooks.{Meaning};
-ghost use Rattle.book.specs.Views.{payments_of};
-ghost use Rattle.book.specs.Visits.{Kept, answer_of};
+ghost use Rattle.book.specs.Visits.{Credited, Fresh, Kept, answer_of, tally_at};
 
 use crate::book::Book;
+use crate::settlement::Settlement;
 use rules::Rulebook;
 
 // How a member's last visit ended, and at what estate.
@@ -19,38 +19,44 @@ pub(crate) enum Visit {
     PassedOver(u32),
 }
 
-// The estate that each member has now, kept up rather than summed anew, and its last visit.
-#[derive(Drop)]
-pub(crate) struct Visits {
-    pub(crate) estates: [u32; 32],
-    pub(crate) last: [Visit; 32],
+// What is kept of a member: the estate that it has now, kept up rather than summed anew, and its last visit.
+#[derive(Clone, Copy)]
+pub(crate) struct Tally {
+    pub(crate) estate: u32,
+    pub(crate) last: Visit,
+}
+
+// Adds to the estate of each of n creditors what a row has more than before.
+fn credit(tallies: &mut [Tally; 32], before: &[u32; 32], after: &[u32; 32], n: u8)
+    requires few { n ≤ 32 }
+    requires low { (j : ℕ) → j < n → (tally_at tallies.old j).estate ≤ 1320000 }
+    requires small { (j : ℕ) → slice_index after.now j ≤ 10000 }
+    requires risen { (j : ℕ) → j < n → slice_index before.now j ≤ slice_index after.now j }
+    ensures { Credited tallies.old before.now after.now n tallies.new }
+{
+    // By index: of what iter_mut lends, a proof knows only the length.
+    for j in 0..n as usize {
+        tallies[j].estate += after[j] - before[j];
+    }
 }
 
 impl Book {
-    // The estates as they are, and nobody visited yet.
-    pub(crate) fn no_visits(&self) -> Visits
-        ensures { (A : Meaning) → Kept A self.now result }
+    // A member's estate as it is, and no visit yet.
+    fn unvisited(&self, at: usize) -> Tally
+        requires { at < 32 }
+        ensures { Fresh self.now at result }
     {
-        let mut estates = [0; 32];
-        for m in 0..self.figures.n as usize {
-            estates[m] = self.estate(m);
-        }
-        Visits {
-            estates,
-            last: [Visit::Never; 32],
+        Tally {
+            estate: self.seat(at).estate(),
+            last: Visit::Never,
         }
     }
 
-    // Adds to the estate of each creditor what a debtor's row has more than before.
-    fn credit(&self, debtor: usize, before: &[u32; 32], estates: &mut [u32; 32])
-        requires debtor { debtor < self.now.figures.n }
-        requires low { (j : ℕ) → j < self.now.figures.n → slice_index estates.old j ≤ 1320000 }
-        requires risen { (j : ℕ) → j < self.now.figures.n → slice_index before.now j ≤ payments_of self.now debtor j }
-        ensures { (j : ℕ) → j < self.now.figures.n → slice_index estates.new j ≡ slice_index estates.old j + (payments_of self.now debtor j - slice_index before.now j) }
+    // The estates as they are, and nobody visited yet.
+    pub(crate) fn no_visits(&self) -> [Tally; 32]
+        ensures { (A : Meaning) → Kept A self.now result }
     {
-        for j in 0..self.figures.n as usize {
-            estates[j] += self.paid[debtor][j] - before[j];
-        }
+        std::array::from_fn(|at| self.unvisited(at))
     }
 
     // Settles a member at its kept estate, adds what it pays to its creditors' estates, and notes how the
@@ -58,23 +64,25 @@ impl Book {
     fn settle_anew<R: Rulebook>(
         &mut self,
         rulebook: &R,
-        visits: &mut Visits,
+        tallies: &mut [Tally; 32],
         member: u8,
     ) -> Option<u32>
         requires member { member < self.old.figures.n }
-        requires kept { Kept (R.awarded rulebook.now) self.old visits.old }
+        requires kept { Kept (R.awarded rulebook.now) self.old tallies.old }
         ensures settles { Settles (R.awarded rulebook.now) self.old member (answer_of member result) self.new }
-        ensures kept { Kept (R.awarded rulebook.now) self.new visits.new }
+        ensures kept { Kept (R.awarded rulebook.now) self.new tallies.new }
     {
         let m = member as usize;
-        let estate = visits.estates[m];
-        let before = self.paid[m];
-        let Some(units) = self.settle_at(rulebook, member, estate) else {
-            visits.last[m] = Visit::PassedOver(estate);
+        let estate = tallies[m].estate;
+        let seat = self.seat(m);
+        let Some(settlement) = seat.settlement(rulebook, estate) else {
+            tallies[m].last = Visit::PassedOver(estate);
             return None;
         };
-        self.credit(m, &before, &mut visits.estates);
-        visits.last[m] = Visit::Settled(estate);
+        let Settlement { units, row } = settlement;
+        credit(tallies, seat.row(), &row, self.figures.n);
+        tallies[m].last = Visit::Settled(estate);
+        self.paid[m] = row;
         Some(units)
     }
 
@@ -83,20 +91,19 @@ impl Book {
     pub(crate) fn visit<R: Rulebook>(
         &mut self,
         rulebook: &R,
-        visits: &mut Visits,
+        tallies: &mut [Tally; 32],
         member: u8,
     ) -> Option<u32>
         requires member { member < self.old.figures.n }
-        requires kept { Kept (R.awarded rulebook.now) self.old visits.old }
+        requires kept { Kept (R.awarded rulebook.now) self.old tallies.old }
         ensures settles { Settles (R.awarded rulebook.now) self.old member (answer_of member result) self.new }
-        ensures kept { Kept (R.awarded rulebook.now) self.new visits.new }
+        ensures kept { Kept (R.awarded rulebook.now) self.new tallies.new }
     {
-        let estate = visits.estates[member as usize];
-        let last = visits.last[member as usize];
+        let Tally { estate, last } = tallies[member as usize];
         match last {
             Visit::Settled(then) if then == estate => Some(0),
             Visit::PassedOver(then) if then == estate => None,
-            _ => self.settle_anew(rulebook, visits, member),
+            _ => self.settle_anew(rulebook, tallies, member),
         }
     }
 }

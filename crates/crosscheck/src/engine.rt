@@ -2,7 +2,7 @@
 use book::{Sheet, Task};
 use netfile::{count, load};
 use network::Draft;
-use report::{TaskLine, print, sheet_lines};
+use report::{print, sheet_lines};
 use std::alloc::{AllocError, Global};
 
 // The draft of a network file.
@@ -18,8 +18,7 @@ pub fn draft_of(file: &[u8]) -> Option<Draft> {
 }
 
 fn push_task(heap: Global, text: &mut String, task: Task) -> Result<(), AllocError> {
-    let line = TaskLine(task);
-    let shown = format!(in heap; "{line}\n")?;
+    let shown = format!(in heap; "{task}\n")?;
     text.push_str(shown.as_str())
 }
 

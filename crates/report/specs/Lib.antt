@@ -1,4 +1,3 @@
 pub mod Lines
 pub mod Sheets
-pub mod Tasks
 pub mod Clearances

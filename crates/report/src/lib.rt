@@ -4,10 +4,8 @@
 mod clearance;
 mod line;
 mod statement;
-mod task_line;
 mod writing;
 
 pub use clearance::{LONGEST_INPUT, Report, clear};
 pub use line::{Line, print};
 pub use statement::sheet_lines;
-pub use task_line::TaskLine;

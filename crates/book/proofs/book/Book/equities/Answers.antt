@@ -1,29 +1,16 @@
-use Rattle.std.proofs.Common.{◌≡◌, ◌-◌, sym, refl, ◌∙◌, ap₂, inl, inr, arith, length-set, below_more}
-use Rattle.std.proofs.lemmas.List.{get_or-set_same, get_or-set_other}
+use Rattle.std.proofs.Common.{◌≡◌, sym, ◌∙◌, inl, inr, zero-le, arith, rules, tests}
+use Rattle.std.proofs.lemmas.List.{get_or_past}
 use Rattle.std.proofs.lemmas.Bool.{cases_lt}
-use Rattle.book.specs.Views.{payments_of}
+use Rattle.book.specs.Views.{payments_of, cash_of}
+use Rattle.book.proofs.Making.{made}
 use Rattle.book.proofs.Outside.{cash_past}
-use Rattle.book.proofs.Tables.{get_or_zeros}
 use Rattle.book.proofs.book.Book.equities.Goals as goal
-
-pub loop-i-init : goal.loop-i-init
-loop-i-init c = (refl, λ k h. absurd (omega arith), λ k _. get_or_zeros 32 k)
-
-pub loop-i-preserved : goal.loop-i-preserved
-loop-i-preserved c =
-    let i = c.loop-i.i in
-    let xs = c.loop-i.equities in (
-      length-set xs i _ ∙ c.loop-i.invariant.0,
-      below_more _ i (λ k h. get_or-set_other xs i k _ 0 (λ e. omega arith) ∙ c.loop-i.invariant.1 k h)
-          (get_or-set_same xs i _ 0 (omega (arith, c.args.self.now.figures.few, c.loop-i.invariant.0)) ∙ ap₂ ◌-◌ c.estate.ensures.value c.outlay.ensures),
-      λ k h. get_or-set_other xs i k _ 0 (λ e. omega arith) ∙ c.loop-i.invariant.2 k (omega arith),
-    )
 
 pub returns : goal.returns
 returns c k =
     let B = c.args.self.now in
-    let end : c.loop-i.i ≡ B.figures.n = omega arith in
-    elim (cases_lt k B.figures.n) [
-      | inl l ↦ c.loop-i.invariant.1 k (omega arith)
-      | inr l ↦ c.loop-i.invariant.2 k (omega arith) ∙ sym (cash_past B.figures (payments_of B) k l B.capped)
+    let xs = c.from_fn.result in
+    elim (cases_lt k 32) [
+      | inl l ↦ made _ (λ i y. y ≡ cash_of B i) xs 0 0 32 _ (λ i y q h. search (rules, tests)) c.from_fn.ensures.items.each k zero-le l
+      | inr l ↦ get_or_past xs k 0 (omega (arith, c.from_fn.ensures.items.long)) ∙ sym (cash_past B.figures (payments_of B) k (omega (arith, B.figures.few)) B.capped)
     ]

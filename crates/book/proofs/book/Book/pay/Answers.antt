@@ -1,5 +1,6 @@
-use Rattle.std.proofs.Common.{refl, ◌∙◌, arith, rules}
-use Rattle.book.proofs.Cases.{receded_is, steady_is, pay_recedes, pay_beyond, pay_passes, pay_pays, pay_kept}
+use Rattle.std.proofs.Common.{◌≡◌, refl, ap, ◌∙◌, arith, length-set}
+use Rattle.book.specs.Views.{payments_of}
+use Rattle.book.proofs.Cases.{at_seat, row_told, receded_is, steady_is, pay_recedes, pay_beyond, pay_passes, pay_pays, pay_columns, pay_kept}
 use Rattle.book.proofs.book.Book.pay.Goals as goal
 
 pub returns-then-recedes : goal.returns-then-recedes
@@ -7,9 +8,11 @@ returns-then-recedes g c =
     let A = g.R.Rulebook.awarded c.args.rulebook.now in
     let B = c.args.self.now in
     let d = c.args.debtor in
-    let fault =
-    pay_recedes A B d c.args.creditor c.args.units c.if-debtor-self.false c.if-creditor-self.false (omega arith)
-    (receded_is A B d c.due_row-due.result c.due_row-due.ensures c.recedes.result c.recedes.ensures ∙ c.if-recedes.true) in
+    let o = c.args.creditor in
+    let known = c.in_ok-payer.ensures.1 in
+    let row = c.due_row-due.result in
+    let told = row_told A c.in_ok-payer.payer known.0 row c.recedes.result c.due_row-due.ensures c.recedes.ensures in
+    let fault = pay_recedes A B d o c.args.units known.2 known.3 (omega arith) (receded_is A B d row told.0 c.recedes.result told.1 ∙ c.if-recedes.true) in
     let named = c.of_pair-then-recedes.ensures in
     (cc, refl)
 
@@ -17,16 +20,27 @@ pub overflow_sub-due : goal.overflow_sub-due
 overflow_sub-due g c =
     let A = g.R.Rulebook.awarded c.args.rulebook.now in
     let B = c.args.self.now in
-    omega (arith, c.entry-paid.ensures.value, steady_is A B c.args.debtor c.due_row-due.result c.due_row-due.ensures c.recedes.result c.recedes.ensures c.if-recedes.false c.args.creditor c.if-creditor-self.false)
+    let d = c.args.debtor in
+    let o = c.args.creditor in
+    let known = c.in_ok-payer.ensures.1 in
+    let row = c.due_row-due.result in
+    let told = row_told A c.in_ok-payer.payer known.0 row c.recedes.result c.due_row-due.ensures c.recedes.ensures in
+    let paid = at_seat (λ X k. c.paid_to-paid.result ≡ payments_of X k c.in_ok-payer.payee.at) c.in_ok-payer.payer known.0 c.paid_to-paid.ensures ∙ ap (payments_of B d) known.1.1 in
+    omega (arith, paid, steady_is A B d row told.0 c.recedes.result told.1 c.if-recedes.false o known.3)
 
 pub returns-then-units-due : goal.returns-then-units-due
 returns-then-units-due g c =
     let A = g.R.Rulebook.awarded c.args.rulebook.now in
     let B = c.args.self.now in
     let d = c.args.debtor in
+    let o = c.args.creditor in
+    let known = c.in_ok-payer.ensures.1 in
+    let row = c.due_row-due.result in
+    let told = row_told A c.in_ok-payer.payer known.0 row c.recedes.result c.due_row-due.ensures c.recedes.ensures in
+    let paid = at_seat (λ X k. c.paid_to-paid.result ≡ payments_of X k c.in_ok-payer.payee.at) c.in_ok-payer.payer known.0 c.paid_to-paid.ensures ∙ ap (payments_of B d) known.1.1 in
     let fault =
-    pay_beyond A B d c.args.creditor c.args.units c.if-debtor-self.false c.if-creditor-self.false (omega arith) c.due_row-due.result c.due_row-due.ensures
-    (receded_is A B d c.due_row-due.result c.due_row-due.ensures c.recedes.result c.recedes.ensures ∙ c.if-recedes.false) c.entry-paid.result c.entry-paid.ensures.value c.if-units-due.true in
+    pay_beyond A B d o c.args.units known.2 known.3 (omega arith) row told.0 (receded_is A B d row told.0 c.recedes.result told.1 ∙ c.if-recedes.false)
+    c.paid_to-paid.result paid c.if-units-due.true in
     let named = c.of_pair-then-units-due.ensures in
     (cc, refl)
 
@@ -35,23 +49,36 @@ invariant_of-self g c =
     let A = g.R.Rulebook.awarded c.args.rulebook.now in
     let B = c.args.self.now in
     let d = c.args.debtor in
-    let wide = c.entry-paid.ensures.wide in
+    let o = c.args.creditor in
+    let known = c.in_ok-payer.ensures.1 in
+    let row = c.due_row-due.result in
+    let told = row_told A c.in_ok-payer.payer known.0 row c.recedes.result c.due_row-due.ensures c.recedes.ensures in
+    let paid = at_seat (λ X k. c.paid_to-paid.result ≡ payments_of X k c.in_ok-payer.payee.at) c.in_ok-payer.payer known.0 c.paid_to-paid.ensures ∙ ap (payments_of B d) known.1.1 in
+    let steady = receded_is A B d row told.0 c.recedes.result told.1 ∙ c.if-recedes.false in
+    let v = c.paid_to-paid.result in
+    let room = c.if-units-due.false in
     let kept =
-    pay_kept A B d c.args.creditor c.args.units c.if-debtor-self.false c.if-creditor-self.false (omega arith) c.due_row-due.result c.due_row-due.ensures
-    (receded_is A B d c.due_row-due.result c.due_row-due.ensures c.recedes.result c.recedes.ensures ∙ c.if-recedes.false) c.entry-paid.result c.entry-paid.ensures.value
-    (search rules) (omega (arith, wide, B.figures.few, c.if-creditor-self.false)) c.if-units-due.false
-    (steady_is A B d c.due_row-due.result c.due_row-due.ensures c.recedes.result c.recedes.ensures c.if-recedes.false) in
-    record { capped = kept.0; solvent = kept.1 }
+    pay_kept A B d o c.args.units known.2 known.3 (omega arith) row told.0 steady v paid room (steady_is A B d row told.0 c.recedes.result told.1 c.if-recedes.false) in
+    record {
+      rows = length-set B.paid d _ ∙ B.rows;
+      columns = pay_columns A B d o c.args.units known.2 known.3 (omega arith) row told.0 steady v paid room;
+      capped = kept.0;
+      solvent = kept.1;
+    }
 
 pub returns : goal.returns
 returns g c =
     let A = g.R.Rulebook.awarded c.args.rulebook.now in
     let B = c.args.self.now in
     let d = c.args.debtor in
-    let wide = c.entry-paid.ensures.wide in
-    let steady = receded_is A B d c.due_row-due.result c.due_row-due.ensures c.recedes.result c.recedes.ensures ∙ c.if-recedes.false in (
-      pay_passes A B d c.args.creditor c.args.units c.if-debtor-self.false c.if-creditor-self.false (omega arith) c.due_row-due.result c.due_row-due.ensures
-          steady c.entry-paid.result c.entry-paid.ensures.value c.if-units-due.false,
-      pay_pays A B d c.args.creditor c.args.units c.if-debtor-self.false c.if-creditor-self.false (omega arith) c.due_row-due.result c.due_row-due.ensures
-          steady c.entry-paid.result c.entry-paid.ensures.value (search rules) (omega (arith, wide, B.figures.few, c.if-creditor-self.false)) c.if-units-due.false refl refl,
+    let o = c.args.creditor in
+    let known = c.in_ok-payer.ensures.1 in
+    let row = c.due_row-due.result in
+    let told = row_told A c.in_ok-payer.payer known.0 row c.recedes.result c.due_row-due.ensures c.recedes.ensures in
+    let paid = at_seat (λ X k. c.paid_to-paid.result ≡ payments_of X k c.in_ok-payer.payee.at) c.in_ok-payer.payer known.0 c.paid_to-paid.ensures ∙ ap (payments_of B d) known.1.1 in
+    let steady = receded_is A B d row told.0 c.recedes.result told.1 ∙ c.if-recedes.false in
+    let v = c.paid_to-paid.result in
+    let room = c.if-units-due.false in (
+      pay_passes A B d o c.args.units known.2 known.3 (omega arith) row told.0 steady v paid room,
+      pay_pays A B d o c.args.units known.2 known.3 (omega arith) row told.0 steady v paid room refl refl,
     )

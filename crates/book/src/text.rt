@@ -1,20 +1,16 @@
 // Calls on a book and their answers, as text.
 ghost use Rattle.std.specs.Prelude.{Some};
-ghost use Rattle.report.specs.Tasks.{answer_text, call_text, task_text};
+ghost use Rattle.book.specs.Tasks.{answer_text, call_text, task_text};
 
-use crate::line::Line;
-use book::{Answer, Call, Task};
+use crate::call::{Answer, Call, Task};
 use std::fmt;
 
 // A call, as it stands in an order of work.
-#[derive(Clone, Copy)]
-struct CallText(Call);
-
-impl fmt::Display for CallText {
-    ghost output = { λ text. Some (call_text text.0) };
+impl fmt::Display for Call {
+    ghost output = { λ call. Some (call_text call) };
 
     fn fmt<W: fmt::Write>(&self, f: &mut fmt::Formatter<W>) -> fmt::Result {
-        match self.0 {
+        match *self {
             Call::Pay(debtor, creditor, units) => write!(f, "pay {debtor} {creditor} {units}"),
             Call::Settle(member) => write!(f, "settle {member}"),
             Call::Round => write!(f, "round"),
@@ -26,19 +22,13 @@ impl fmt::Display for CallText {
     }
 }
 
-#[derive(Clone, Copy)]
-struct AnswerText(Answer);
-
-impl fmt::Display for AnswerText {
-    ghost output = { λ text. Some (answer_text text.0) };
+impl fmt::Display for Answer {
+    ghost output = { λ answer. Some (answer_text answer) };
 
     fn fmt<W: fmt::Write>(&self, f: &mut fmt::Formatter<W>) -> fmt::Result {
-        match self.0 {
-            Answer::Refused(fault) => {
-                let line = Line::Fault(fault);
-                write!(f, "{line}")
-            }
-            Answer::Units(units) => write!(f, "{units}"),
+        match *self {
+            Answer::Units(Ok(units)) => write!(f, "{units}"),
+            Answer::Units(Err(fault)) => write!(f, "{fault}"),
             Answer::Rounded(units, passed) => write!(f, "{units} {passed}"),
             Answer::Member(Some(member)) => write!(f, "{member}"),
             Answer::Member(None) => write!(f, "none"),
@@ -47,19 +37,13 @@ impl fmt::Display for AnswerText {
 }
 
 // A call with its answer behind it.
-#[derive(Clone, Copy)]
-pub struct TaskLine(pub Task);
-
-impl fmt::Display for TaskLine {
-    ghost output = { λ line. Some (task_text line.0) };
+impl fmt::Display for Task {
+    ghost output = { λ task. Some (task_text task) };
 
     fn fmt<W: fmt::Write>(&self, f: &mut fmt::Formatter<W>) -> fmt::Result {
-        let call = CallText(self.0.call);
-        match self.0.answer {
-            Some(answer) => {
-                let answer = AnswerText(answer);
-                write!(f, "{call}: {answer}")
-            }
+        let call = self.call;
+        match self.answer {
+            Some(answer) => write!(f, "{call}: {answer}"),
             None => write!(f, "{call}: not made"),
         }
     }

@@ -1,13 +1,12 @@
 -- The text of calls on a book and of their answers.
-use Rattle.std.specs.Prelude.{ℕ, List, [], ◌∷◌, ◌++◌, Some, None, codes, decimal, Option}
+use Rattle.std.specs.Prelude.{ℕ, List, [], ◌∷◌, ◌++◌, Some, None, Ok, Err, codes, decimal, Option}
+use Rattle.network.specs.Words.{spaced}
+use Rattle.network.specs.Faults.{fault_text}
 use Rattle.book.specs.declared.call.Call.{Call}
 use Rattle.book.specs.declared.call.Call.TheVariants.{Pay, Settle, Round, Paid, Cash, Due, Next}
 use Rattle.book.specs.declared.call.Answer.{Answer}
-use Rattle.book.specs.declared.call.Answer.TheVariants.{Refused, Units, Rounded, Member}
+use Rattle.book.specs.declared.call.Answer.TheVariants.{Units, Rounded, Member}
 use Rattle.book.specs.declared.call.Task.{Task}
-use Rattle.report.specs.declared.line.Line.TheVariants.{Fault as Refusal}
-use Rattle.network.specs.Words.{spaced}
-use Rattle.report.specs.Lines.{text_of}
 
 abbrev pub call_text : Call → List ℕ
 call_text (Pay debtor creditor units) = spaced (codes "pay") (decimal debtor ∷ decimal creditor ∷ decimal units ∷ [])
@@ -23,8 +22,8 @@ member_text (Some member) = decimal member
 member_text None = codes "none"
 
 abbrev pub answer_text : Answer → List ℕ
-answer_text (Refused fault) = text_of (Refusal fault)
-answer_text (Units units) = decimal units
+answer_text (Units (Ok units)) = decimal units
+answer_text (Units (Err fault)) = fault_text fault
 answer_text (Rounded units passed) = spaced (decimal units) (decimal passed ∷ [])
 answer_text (Member member) = member_text member
 
