@@ -1,6 +1,7 @@
 -- A guess whose units all score above every unit that is still wanted is what single steps come to.
-use Rattle.std.proofs.Common.{◌≡◌, ℕ, ◌+◌, ◌*◌, ◌<◌, ◌≤◌, min, true, false, leb, List, length, get_or, sum, ap, ◌∙◌, inl, inr, arith, below_more}
+use Rattle.std.proofs.Common.{◌≡◌, ℕ, ◌+◌, ◌*◌, ◌<◌, ◌≤◌, min, true, false, leb, List, length, get_or, take, sum, ap, ◌∙◌, inl, inr, arith, below_more, length-take}
 use Rattle.std.proofs.lemmas.Bool.{cases_eq, cases_lt, lt-leb, ltb-true, ltb-false}
+use Rattle.std.proofs.lemmas.List.{get_or-take}
 use Rattle.std.proofs.lemmas.List.Folds.{list_all_at}
 use Rattle.std.proofs.lemmas.Slice.Zip.{length-zip, get_or-zip}
 use Rattle.std.specs.List.{list_all, zip}
@@ -55,12 +56,13 @@ within_is hs cs same all k = elim (cases_lt (get_or cs k 0) (get_or hs k 0)) [
 
 module _ (f : Scoring) (positive : (creditor claim held : ℕ) → 1 ≤ (f creditor claim held).1) (cs hs : List ℕ) (heads : List Score)
     (within : (k : ℕ) → get_or hs k 0 ≤ get_or cs k 0) (scores : Heads f cs hs heads) (least greatest : Score)
-    (under : UnderHeld f cs hs (length cs) least) (over : OverFirst heads (length heads) greatest) (apart : Below greatest least) where
+    (under : UnderHeld f cs hs (length cs) least) (over : OverFirst (take (length cs) heads) (length (take (length cs) heads)) greatest) (apart : Below greatest least) where
   held_before_wanted : (i j : ℕ) → 0 < get_or hs i 0 → get_or hs j 0 < get_or cs j 0 → Below (next_score f cs hs j) (last_score f cs hs i)
   held_before_wanted i j some short =
       let in-i : i < length cs = in_list cs i (omega (arith, within i)) in
       let in-j : j < length cs = in_list cs j (omega arith) in
-      let wanted : NotAbove (next_score f cs hs j) greatest = rw ((scores.next j in-j).is) at (over j (omega (arith, scores.count))) in
+      let wanted : NotAbove (next_score f cs hs j) greatest =
+      rw (get_or-take (length cs) heads j (0, 0) in-j, (scores.next j in-j).is) at (over j (omega (arith, length-take (length cs) heads, scores.count))) in
       let below : Below (next_score f cs hs j) least = below_trans (next_score f cs hs j) greatest least (positive _ _ _) wanted apart in
       below_not_above (next_score f cs hs j) least (last_score f cs hs i) (positive _ _ _) below (under i in-i some)
 

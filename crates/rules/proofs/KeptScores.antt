@@ -1,6 +1,6 @@
 -- Handing out units by kept scores is handing them out by the standard.
-use Rattle.std.proofs.Common.{◌≡◌, ℕ, zero, suc, ◌+◌, ◌-◌, ◌*◌, ◌<◌, ◌≤◌, Bool, true, false, cond, ltb, List, length, get_or, set, take, drop, All, position, Some, None, Option, sym, refl, ap, ◌∙◌, ap₂, inl, inr, add-one, arith, length-drop}
-use Rattle.std.proofs.lemmas.List.{length-set, take_all, get_or-drop, get_or-set_same, get_or-set_other}
+use Rattle.std.proofs.Common.{◌≡◌, ℕ, zero, suc, ◌+◌, ◌-◌, ◌*◌, ◌<◌, ◌≤◌, Bool, true, false, cond, ltb, List, length, get_or, set, take, drop, All, position, Some, None, Option, sym, refl, ap, ◌∙◌, ap₂, inl, inr, add-one, arith, length-drop, length-take}
+use Rattle.std.proofs.lemmas.List.{length-set, get_or-drop, get_or-take, get_or-set_same, get_or-set_other}
 use Rattle.std.proofs.lemmas.List.Elements.{All-from_get_or}
 use Rattle.std.proofs.lemmas.List.Quantifiers.{position-Some}
 use Rattle.std.proofs.lemmas.List.Sums.{fails_before_first}
@@ -70,41 +70,50 @@ module _ (f : Scoring) (cs hs : List ℕ) (heads : List Score) (h : Heads f cs h
       none_short f cs hs (length cs)
       (λ k lt. ltb-false _ _ (rw (wants_at k lt) at (position-None (λ (p : ℕ × ℕ). ltb p.1 p.0) (zip cs hs) (0, 0) (sym is) k (omega (arith, length-zip cs hs, h.listed)))))
 
-  behind : (b k : ℕ) → b < k → get_or (drop (b + 1) heads) (k - (b + 1)) (0, 0) ≡ head heads k
-  behind b k past = let is : b + 1 + (k - (b + 1)) ≡ k = omega arith in get_or-drop (b + 1) heads (k - (b + 1)) (0, 0) ∙ ap (head heads) is
+  -- the scores behind b's
+  abbrev tail : ℕ → List Score
+  tail b = take (length cs - (b + 1)) (drop (b + 1) heads)
+
+  length-tail : (b : ℕ) → length (tail b) ≡ length cs - (b + 1)
+  length-tail b = omega (arith, length-take (length cs - (b + 1)) (drop (b + 1) heads), length-drop (b + 1) heads, h.count)
+
+  at_tail : (b d : ℕ) → b + 1 + d < length cs → get_or (tail b) d (0, 0) ≡ head heads (b + 1 + d)
+  at_tail b d lt = get_or-take (length cs - (b + 1)) (drop (b + 1) heads) d (0, 0) (omega arith) ∙ get_or-drop (b + 1) heads d (0, 0)
+
+  behind : (b k : ℕ) → b < k → k < length cs → get_or (tail b) (k - (b + 1)) (0, 0) ≡ head heads k
+  behind b k past lt = let is : b + 1 + (k - (b + 1)) ≡ k = omega arith in at_tail b (k - (b + 1)) (omega arith) ∙ ap (head heads) is
 
   by_standard : (v : Bool) (j b : ℕ) → j < length cs → b < length cs → above (head heads j) (head heads b) ≡ v → above (next_score f cs hs j) (next_score f cs hs b) ≡ v
   by_standard v j b in-j in-b is = sym (ap₂ above (h.next j in-j).is (h.next b in-b).is) ∙ is
 
-  tail_is : (b : ℕ) → take (length heads - (b + 1)) (drop (b + 1) heads) ≡ drop (b + 1) heads
-  tail_is b = take_all _ _ (omega (arith, length-drop (b + 1) heads))
+  pub front_small : All Small (take (length cs) heads)
+  front_small = All-from_get_or Small (take (length cs) heads) (0, 0) (λ i lt. let in_list : i < length cs = omega (arith, length-take (length cs) heads) in rw (get_or-take (length cs) heads i (0, 0) in_list) (h.next i in_list).small)
 
-  pub tail_small : (b : ℕ) → All Small (take (length heads - (b + 1)) (drop (b + 1) heads))
+  pub tail_small : (b : ℕ) → All Small (tail b)
   tail_small b =
-      rw (tail_is b)
-      (All-from_get_or Small (drop (b + 1) heads) (0, 0)
-      (λ i lt. rw (get_or-drop (b + 1) heads i (0, 0)) ((h.next (b + 1 + i) (omega (arith, length-drop (b + 1) heads, h.count))).small)))
+      All-from_get_or Small (tail b) (0, 0)
+      (λ i lt. let in_list : b + 1 + i < length cs = omega (arith, length-tail b) in rw (at_tail b i in_list) (h.next (b + 1 + i) in_list).small)
 
-  pub scan_goes : (b d : ℕ) → Best f cs hs b → Some d ≡ position (λ p. above p (head heads b)) (take (length heads - (b + 1)) (drop (b + 1) heads)) → Best f cs hs (b + (1 + d))
+  pub scan_goes : (b d : ℕ) → Best f cs hs b → Some d ≡ position (λ p. above p (head heads b)) (tail b) → Best f cs hs (b + (1 + d))
   scan_goes b d best is =
       let j : ℕ = b + (1 + d) in
-      let place = position-Some (λ p. above p (head heads b)) (drop (b + 1) heads) d (0, 0) (sym (rw (tail_is b) at is)) in
-      let in_list : j < length cs = omega (arith, place.0, length-drop (b + 1) heads, h.count) in
+      let place = position-Some (λ p. above p (head heads b)) (tail b) d (0, 0) (sym is) in
+      let in_list : j < length cs = omega (arith, place.0, length-tail b) in
       let there : d ≡ j - (b + 1) = omega arith in
-      let up : above (head heads j) (head heads b) ≡ true = rw (← behind b j (omega arith), ← there) place.1 in
-      let low : (k : ℕ) → b < k → k < j → above (head heads k) (head heads b) ≡ false = λ k past lt. rw (← behind b k past) (place.2 (k - (b + 1)) (omega arith)) in
+      let up : above (head heads j) (head heads b) ≡ true = rw (← behind b j (omega arith) in_list, ← there) place.1 in
+      let low : (k : ℕ) → b < k → k < j → above (head heads k) (head heads b) ≡ false = λ k past lt. rw (← behind b k past (omega arith)) (place.2 (k - (b + 1)) (omega arith)) in
       let higher = ltb-true ((head heads b).0 * (head heads j).1) ((head heads j).0 * (head heads b).1) up in
       let short : get_or hs j 0 < get_or cs j 0 =
       elim (cases_lt (get_or hs j 0) (get_or cs j 0)) [ inl less ↦ less | inr full ↦ absurd (omega (arith, higher, ap (λ x. x * (head heads b).1) ((h.next j in_list).met full))) ] in
       let before = stays f cs hs b (b + 1) j (omega arith) best.picked_so (λ k from less. by_standard false k b (omega arith) best.listed (low k (omega arith) less)) in
       record { listed = in_list; short = short; picked_so = passes f cs hs b j before short (by_standard true j b in_list best.listed up) }
 
-  pub scan_ends : (b : ℕ) → Best f cs hs b → None ≡ position (λ p. above p (head heads b)) (take (length heads - (b + 1)) (drop (b + 1) heads)) → picked f cs hs (length cs) ≡ Some b
+  pub scan_ends : (b : ℕ) → Best f cs hs b → None ≡ position (λ p. above p (head heads b)) (tail b) → picked f cs hs (length cs) ≡ Some b
   scan_ends b best is =
       stays f cs hs b (b + 1) (length cs) (omega (arith, best.listed)) best.picked_so
       (λ k from less.
-      let low = position-None (λ p. above p (head heads b)) (drop (b + 1) heads) (0, 0) (sym (rw (tail_is b) at is)) (k - (b + 1)) (omega (arith, length-drop (b + 1) heads, h.count)) in
-      by_standard false k b less best.listed (rw (behind b k (omega arith)) at low))
+      let low = position-None (λ p. above p (head heads b)) (tail b) (0, 0) (sym is) (k - (b + 1)) (omega (arith, length-tail b)) in
+      by_standard false k b less best.listed (rw (behind b k (omega arith) less) at low))
 
 -- one unit more
 module _ (f : Scoring) (cs hs : List ℕ) (heads : List Score) (n : ℕ) (u : Underway f cs n hs heads) where
@@ -126,7 +135,7 @@ module _ (f : Scoring) (cs hs : List ℕ) (heads : List Score) (n : ℕ) (u : Un
         held = held_more (Some j) next pick raise;
         scores = record {
           listed = ap length raise ∙ length-set hs j more ∙ u.scores.listed;
-          count = ap length keep ∙ length-set heads j s ∙ u.scores.count;
+          count = omega (arith, ap length keep, length-set heads j s, u.scores.count);
           next = λ k in_list. elim (cases_eq k j) [
             | inl e ↦ rw (e, keep, raise, get_or-set_same heads j s (0, 0) (omega (arith, u.scores.count))) ask
             | inr ne ↦ rw (keep, raise, get_or-set_other heads j k s (0, 0) ne, get_or-set_other hs j k more 0 ne) (u.scores.next k in_list)

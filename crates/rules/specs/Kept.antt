@@ -24,7 +24,7 @@ pub record Answers (f : Scoring) (creditor claim held : ℕ) (s : Score) : Type 
 -- a score for each creditor's next unit, where the creditors hold hs of their claims cs
 pub record Heads (f : Scoring) (cs hs : List ℕ) (heads : List Score) : Type 0 where
   pub listed : length hs ≡ length cs
-  pub count : length heads ≡ length cs
+  pub count : length cs ≤ length heads
   pub next : (k : ℕ) → k < length cs → Answers f k (slice_index cs k) (slice_index hs k) (head heads k)
 
 -- n units are handed out, and the scores of the next ones kept

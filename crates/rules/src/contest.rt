@@ -13,6 +13,13 @@ pub(crate) struct Contest<'a, S> {
     ghost admitted: { Admitted claims.now },
 }
 
+// How many units are handed out, and the score of every creditor's next unit.
+#[derive(Drop)]
+pub(crate) struct Standing {
+    pub(crate) units: u32,
+    pub(crate) heads: [(u32, u32); 32],
+}
+
 impl<S: Standard> Contest<'_, S> {
     // The score of a creditor's next unit, where it holds so many.
     pub(crate) fn score(&self, creditor: usize, held: u32) -> (u32, u32)
@@ -23,15 +30,16 @@ impl<S: Standard> Contest<'_, S> {
         self.standard.score(creditor as u8, claim, held)
     }
 
-    // Scores every creditor's next unit.
-    pub(crate) fn keep_scores(&self, held: &[u32], heads: &mut [(u32, u32)])
-        requires same { length held.now ≡ length self.now.claims.now }
-        requires room { length heads.old ≡ length self.now.claims.now }
-        ensures { Heads (S.scored self.now.standard.now) self.now.claims.now held.now heads.new }
+    // The score of every creditor's next unit.
+    pub(crate) fn scores(&self, held: &[u32]) -> [(u32, u32); 32]
+        requires { length held.now ≡ length self.now.claims.now }
+        ensures { Heads (S.scored self.now.standard.now) self.now.claims.now held.now result }
     {
+        let mut heads = [(0, 1); 32];
         for (k, units) in held.iter().enumerate() {
             // By index: of what iter_mut lends, a proof knows only the length.
             heads[k] = self.score(k, *units);
         }
+        heads
     }
 }

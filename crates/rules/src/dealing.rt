@@ -5,7 +5,7 @@ ghost use Rattle.std.specs.List.{zip};
 ghost use Rattle.rules.specs.Kept.{Heads, Small, Underway};
 ghost use Rattle.rules.specs.Unit.{First, above, dealt, picked};
 
-use crate::contest::Contest;
+use crate::contest::{Contest, Standing};
 use crate::standard::Standard;
 
 // Whether p is the higher fraction.
@@ -43,21 +43,23 @@ impl<S: Standard> Contest<'_, S> {
         ensures value { result ≡ picked (S.scored self.now.standard.now) self.now.claims.now held.now (length self.now.claims.now) }
         ensures first { IfSome result (First (S.scored self.now.standard.now) self.now.claims.now held.now) }
     {
+        let n = self.claims.len();
         let mut best = first_short(self.claims, held)?;
-        while let Some(behind) = first_above(&heads[best + 1..], heads[best]) {
+        while let Some(behind) = first_above(&heads[best + 1..n], heads[best]) {
             best += 1 + behind;
         }
         Some(best)
     }
 
-    // Hands out the units from `held`, of which the creditors hold their parts already, to `units`.
-    pub(crate) fn deal(&self, held: u32, units: u32, heads: &mut [(u32, u32)], awards: &mut [u32])
-        requires begun { Underway (S.scored self.now.standard.now) self.now.claims.now held awards.old heads.old }
-        requires order { held ≤ units }
+    // Hands out the units that are left, up to `units`.
+    pub(crate) fn deal(&self, begun: Standing, units: u32, awards: &mut [u32])
+        requires begun { Underway (S.scored self.now.standard.now) self.now.claims.now begun.units awards.old begun.heads }
+        requires order { begun.units ≤ units }
         ensures { awards.new ≡ dealt (S.scored self.now.standard.now) self.now.claims.now units }
     {
-        for _unit in held..units {
-            if let Some(j) = self.pick(awards, heads) {
+        let mut heads = begun.heads;
+        for _unit in begun.units..units {
+            if let Some(j) = self.pick(awards, &heads) {
                 awards[j] += 1;
                 heads[j] = self.score(j, awards[j]);
             }

@@ -7,7 +7,7 @@ ghost use Rattle.rules.specs.Kept.{Heads, OverFirst, Small, UnderHeld, Underway}
 ghost use Rattle.rules.specs.Theorems.{NeverRises};
 ghost use Rattle.rules.specs.Unit.{dealt};
 
-use crate::contest::Contest;
+use crate::contest::{Contest, Standing};
 use crate::dealing::higher;
 use crate::standard::Standard;
 
@@ -72,28 +72,28 @@ impl<S: Standard> Contest<'_, S> {
     {
         let held = self.held_within(units, guess)?;
         let least = self.least_held(guess);
-        let greatest = greatest(heads);
+        let greatest = greatest(&heads[..self.claims.len()]);
         higher(least, greatest).then_some(held)
     }
 
-    // Awards that the creditors hold after some of the units, and how many these are: a guess that passes
-    // the check, or nothing.
-    pub(crate) fn begin(&self, units: u32, heads: &mut [(u32, u32)], awards: &mut [u32]) -> u32
-        requires same { length awards.old ≡ length self.now.claims.now }
-        requires room { length heads.old ≡ length self.now.claims.now }
-        ensures begun { Underway (S.scored self.now.standard.now) self.now.claims.now result awards.new heads.new }
-        ensures order { result ≤ units }
+    // Awards that the creditors hold after some of the units: a guess that passes the check, or nothing.
+    pub(crate) fn begin(&self, units: u32, awards: &mut [u32]) -> Standing
+        requires { length awards.old ≡ length self.now.claims.now }
+        ensures begun { Underway (S.scored self.now.standard.now) self.now.claims.now result.units awards.new result.heads }
+        ensures order { result.units ≤ units }
     {
         awards.fill(0);
         if self.standard.never_rises() {
             self.standard.guess(units, self.claims, awards);
-            self.keep_scores(awards, heads);
-            if let Some(held) = self.check_guess(units, awards, heads) {
-                return held;
+            let heads = self.scores(awards);
+            if let Some(units) = self.check_guess(units, awards, &heads) {
+                return Standing { units, heads };
             }
             awards.fill(0);
         }
-        self.keep_scores(awards, heads);
-        0
+        Standing {
+            units: 0,
+            heads: self.scores(awards),
+        }
     }
 }

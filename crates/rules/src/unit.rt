@@ -37,10 +37,8 @@ impl<S: Standard> Contest<'_, S> {
         requires { length awards.old ≡ length self.now.claims.now }
         ensures { awards.new ≡ dealt (S.scored self.now.standard.now) self.now.claims.now units }
     {
-        let mut heads = [(0, 1); 32];
-        let heads = &mut heads[..self.claims.len()];
-        let held = self.begin(units, heads, awards);
-        self.deal(held, units, heads, awards);
+        let begun = self.begin(units, awards);
+        self.deal(begun, units, awards);
     }
 }
 

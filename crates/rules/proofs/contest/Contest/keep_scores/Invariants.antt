@@ -1,7 +1,0 @@
-use Rattle.std.proofs.Common.{ℕ, ◌<◌, get_or}
-use Rattle.rules.specs.Kept.{Answers, head}
-use Rattle.rules.proofs.contest.Contest.keep_scores.Given as goal
-
-abbrev pub invariant-loop-k : goal.invariant-loop-k
-invariant-loop-k g l =
-    (j : ℕ) → j < l.k → Answers (g.S.Standard.scored l.self.standard.now) j (get_or l.self.claims.now j 0) (get_or l.held j 0) (head l.heads j)
