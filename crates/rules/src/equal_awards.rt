@@ -55,11 +55,7 @@ fn share_above(level: u32, units: u32, claims: &[u32]) -> u32 {
             met = met.wrapping_add(*claim);
         }
     }
-    if open == 0 {
-        level
-    } else {
-        units.saturating_sub(met) / open
-    }
+    units.saturating_sub(met).checked_div(open).unwrap_or(level)
 }
 
 // From 0 the level rises to what those above it can get each, until it rises no more: at most once for

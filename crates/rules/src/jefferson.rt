@@ -37,10 +37,9 @@ impl Standard for Jefferson {
 
     // Each claim's proportional share of the units, rounded down.
     fn guess(&self, units: u32, claims: &[u32], awards: &mut [u32]) {
-        let mut total = 0u64;
-        for claim in claims {
-            total = total.wrapping_add(u64::from(*claim));
-        }
+        let total = claims
+            .iter()
+            .fold(0u64, |total, claim| total.wrapping_add(u64::from(*claim)));
         if total == 0 {
             return;
         }
