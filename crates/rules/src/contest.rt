@@ -13,7 +13,8 @@ pub(crate) struct Contest<'a, S> {
     ghost admitted: { Admitted claims.now },
 }
 
-// How many units are handed out, and the score of every creditor's next unit.
+// How many units are handed out, and the score of every creditor's next unit. An array, since the rules have
+// no heap.
 #[derive(Drop)]
 pub(crate) struct Standing {
     pub(crate) units: u32,

@@ -8,7 +8,7 @@ ghost use Rattle.rules.specs.Unit.{First, above, dealt, picked};
 use crate::contest::{Contest, Standing};
 use crate::standard::Standard;
 
-// Whether p is the higher fraction.
+// Whether p is the higher fraction. By hand: scores are tuples, which have another order of their own.
 pub(crate) fn higher(p: (u32, u32), q: (u32, u32)) -> bool
     requires { Small p × Small q }
     ensures { result ≡ above p q }

@@ -33,18 +33,6 @@ fn greatest(heads: &[(u32, u32)]) -> (u32, u32)
 }
 
 impl<S: Standard> Contest<'_, S> {
-    // How many units are held, if nobody holds more than its claim and all together no more than `units`.
-    fn held_within(&self, units: u32, held: &[u32]) -> Option<u32>
-        requires { length held.now ≡ length self.now.claims.now }
-        ensures { IfSome result (λ n. (n ≡ sum held.now) × (n ≤ units) × ((k : ℕ) → slice_index held.now k ≤ slice_index self.now.claims.now k)) }
-    {
-        if !within(held, self.claims) {
-            return None;
-        }
-        let total = held.iter().sum();
-        (total <= units).then_some(total)
-    }
-
     // The least score of a unit held.
     fn least_held(&self, held: &[u32]) -> (u32, u32)
         requires { length held.now ≡ length self.now.claims.now }
@@ -63,17 +51,24 @@ impl<S: Standard> Contest<'_, S> {
         least
     }
 
-    // How many units a guess holds, if it is what single steps come to. Whose claim is met wants no unit,
-    // and its score of 0 is above none.
+    // How many units a guess holds, if these are no more than `units` and it is what single steps come to.
+    // Whose claim is met wants no unit, and its score of 0 is above none.
     fn check_guess(&self, units: u32, guess: &[u32], heads: &[(u32, u32)]) -> Option<u32>
         requires scores { Heads (S.scored self.now.standard.now) self.now.claims.now guess.now heads.now }
         requires falling { NeverRises (S.scored self.now.standard.now) }
         ensures { IfSome result (λ n. (n ≤ units) × (guess.now ≡ dealt (S.scored self.now.standard.now) self.now.claims.now n)) }
     {
-        let held = self.held_within(units, guess)?;
+        if !within(guess, self.claims) {
+            return None;
+        }
+        let total = guess.iter().sum();
         let least = self.least_held(guess);
         let greatest = greatest(&heads[..self.claims.len()]);
-        higher(least, greatest).then_some(held)
+        if total <= units && higher(least, greatest) {
+            Some(total)
+        } else {
+            None
+        }
     }
 
     // Awards that the creditors hold after some of the units: a guess that passes the check, or nothing.
