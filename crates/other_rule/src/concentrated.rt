@@ -14,19 +14,15 @@ impl Standard for Concentrated {
 
     const MAX_DENOMINATOR: u32 = 1;
 
-    ghost numerators = { 10000 };
+    ghost MAX_NUMERATOR = { 10000 };
 
-    ghost denominators = { 1 };
+    ghost MAX_DENOMINATOR = { 1 };
 
     ghost scored = { λ _. concentrated_score };
 
     ghost small = { Prim.search rules };
 
     ghost measured = { Prim.search rules };
-
-    fn limits() -> (u32, u32) {
-        (Self::MAX_NUMERATOR, Self::MAX_DENOMINATOR)
-    }
 
     fn score(&self, creditor: u8, claim: u32, held: u32) -> (u32, u32) {
         if out_of_reach(creditor, claim, held) {

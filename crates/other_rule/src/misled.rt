@@ -14,19 +14,15 @@ impl Standard for Misled {
 
     const MAX_DENOMINATOR: u32 = 10_000;
 
-    ghost numerators = { 1 };
+    ghost MAX_NUMERATOR = { 1 };
 
-    ghost denominators = { 10000 };
+    ghost MAX_DENOMINATOR = { 10000 };
 
     ghost scored = { λ _. equal_score };
 
     ghost small = { Prim.search rules };
 
     ghost measured = { Prim.search rules };
-
-    fn limits() -> (u32, u32) {
-        (Self::MAX_NUMERATOR, Self::MAX_DENOMINATOR)
-    }
 
     fn score(&self, creditor: u8, claim: u32, held: u32) -> (u32, u32) {
         EqualAwards.score(creditor, claim, held)

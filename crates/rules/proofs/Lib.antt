@@ -10,5 +10,4 @@ pub mod DualAwards
 pub mod ClassAwards
 pub mod Quota
 pub mod KeptScores
-pub mod Picking
 pub mod Guesses

@@ -13,19 +13,15 @@ impl Standard for EqualAwards {
 
     const MAX_DENOMINATOR: u32 = 10_000;
 
-    ghost numerators = { 1 };
+    ghost MAX_NUMERATOR = { 1 };
 
-    ghost denominators = { 10000 };
+    ghost MAX_DENOMINATOR = { 10000 };
 
     ghost scored = { λ _. equal_score };
 
     ghost small = { Prim.search rules };
 
     ghost measured = { Prim.search rules };
-
-    fn limits() -> (u32, u32) {
-        (Self::MAX_NUMERATOR, Self::MAX_DENOMINATOR)
-    }
 
     fn score(&self, creditor: u8, claim: u32, held: u32) -> (u32, u32) {
         if out_of_reach(creditor, claim, held) {
@@ -59,11 +55,7 @@ fn share_above(level: u32, units: u32, claims: &[u32]) -> u32 {
             met = met.wrapping_add(*claim);
         }
     }
-    if open == 0 {
-        level
-    } else {
-        units.saturating_sub(met) / open
-    }
+    units.saturating_sub(met).checked_div(open).unwrap_or(level)
 }
 
 // From 0 the level rises to what those above it can get each, until it rises no more: at most once for

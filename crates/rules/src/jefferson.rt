@@ -13,19 +13,15 @@ impl Standard for Jefferson {
 
     const MAX_DENOMINATOR: u32 = 10_000;
 
-    ghost numerators = { 10000 };
+    ghost MAX_NUMERATOR = { 10000 };
 
-    ghost denominators = { 10000 };
+    ghost MAX_DENOMINATOR = { 10000 };
 
     ghost scored = { λ _. jefferson_score };
 
     ghost small = { Prim.search rules };
 
     ghost measured = { Prim.search rules };
-
-    fn limits() -> (u32, u32) {
-        (Self::MAX_NUMERATOR, Self::MAX_DENOMINATOR)
-    }
 
     fn score(&self, creditor: u8, claim: u32, held: u32) -> (u32, u32) {
         if out_of_reach(creditor, claim, held) {
@@ -41,10 +37,9 @@ impl Standard for Jefferson {
 
     // Each claim's proportional share of the units, rounded down.
     fn guess(&self, units: u32, claims: &[u32], awards: &mut [u32]) {
-        let mut total = 0u64;
-        for claim in claims {
-            total = total.wrapping_add(u64::from(*claim));
-        }
+        let total = claims
+            .iter()
+            .fold(0u64, |total, claim| total.wrapping_add(u64::from(*claim)));
         if total == 0 {
             return;
         }

@@ -5,6 +5,7 @@ mod choice;
 mod claims;
 mod class_table;
 mod classes;
+mod contest;
 mod dealing;
 mod dual;
 mod equal_awards;

@@ -1,5 +1,5 @@
 // What a standard is: the score by which a creditor competes for its next unit.
-ghost use Rattle.std.specs.Prelude.{◌≡◌, ℕ, ◌≤◌, T};
+ghost use Rattle.std.specs.Prelude.{◌≡◌, ℕ, ◌≤◌, IsTrue};
 ghost use Rattle.rules.specs.Standards.{Scoring, Measured, out_of_reach};
 ghost use Rattle.rules.specs.Theorems.{NeverRises};
 
@@ -10,17 +10,13 @@ pub trait Standard {
 
     const MAX_DENOMINATOR: u32;
 
-    // The same two numbers, for contracts, to which `limits` ties the constants.
-    ghost numerators: { ℕ };
+    // The same two numbers, for the laws.
+    ghost MAX_NUMERATOR: { ℕ };
 
-    ghost denominators: { ℕ };
+    ghost MAX_DENOMINATOR: { ℕ };
 
     // The score of each creditor, by its number, its claim and the units that it holds.
     ghost scored: { Self → Scoring };
-
-    // The two constants.
-    fn limits() -> (u32, u32)
-        ensures { result ≡ (numerators, denominators) };
 
     fn score(&self, creditor: u8, claim: u32, held: u32) -> (u32, u32)
         ensures { result ≡ scored self.now creditor claim held };
@@ -28,7 +24,7 @@ pub trait Standard {
     // Whether no score rises with the units held. A standard that does not say so is served one unit at a
     // time.
     fn never_rises(&self) -> bool
-        ensures { T result → NeverRises (scored self.now) }
+        ensures { IsTrue result → NeverRises (scored self.now) }
     {
         false
     }
@@ -37,9 +33,9 @@ pub trait Standard {
     // default none. Nothing is promised of a guess, since the unit rule checks it.
     fn guess(&self, _units: u32, _claims: &[u32], _awards: &mut [u32]) {}
 
-    ghost small: { (numerators ≤ 65535) × (denominators ≤ 65535) };
+    ghost small: { (MAX_NUMERATOR ≤ 65535) × (MAX_DENOMINATOR ≤ 65535) };
 
-    ghost measured: { (s : Self) → Measured (scored s) numerators denominators };
+    ghost measured: { (s : Self) → Measured (scored s) MAX_NUMERATOR MAX_DENOMINATOR };
 }
 
 // Whether there is nothing to compete for: no such creditor, no such claim, or a claim that is met.

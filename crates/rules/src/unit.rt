@@ -1,13 +1,11 @@
 // The unit rule: one unit at a time, each to the highest score.
 ghost use Rattle.std.specs.Prelude.{◌≡◌, length};
-ghost use Rattle.rules.specs.Claims.{Admitted};
 ghost use Rattle.rules.specs.Theorems.{Only, NeverRises, Foremost, UnitByUnit};
 ghost use Rattle.rules.specs.Unit.{dealt, unit_rule};
 ghost use Rattle.rules.specs.UnitLaws.{unit_laws};
 
 use crate::claims::ClaimList;
-use crate::dealing::deal;
-use crate::guessing::begin;
+use crate::contest::Contest;
 use crate::rulebook::Rulebook;
 use crate::standard::Standard;
 use network::Fault;
@@ -32,22 +30,16 @@ impl<S: Standard> UnitRule<S> {
     }
 }
 
-// Divides units that do not meet all claims: from a guess that passes the check or from nothing, and then
-// one at a time.
-fn divide<S: Standard>(
-    standard: &S,
-    units: u32,
-    claims: &[u32],
-    heads: &mut [(u32, u32)],
-    awards: &mut [u32],
-)
-    requires admitted { Admitted claims.now }
-    requires same { length awards.old ≡ length claims.now }
-    requires room { length heads.old ≡ length claims.now }
-    ensures { awards.new ≡ dealt (S.scored standard.now) claims.now units }
-{
-    let held = begin(standard, units, claims, heads, awards);
-    deal(standard, held, units, claims, heads, awards);
+impl<S: Standard> Contest<'_, S> {
+    // Divides units that do not meet all claims: from a guess that passes the check or from nothing, and
+    // then one at a time.
+    fn divide(&self, units: u32, awards: &mut [u32])
+        requires { length awards.old ≡ length self.now.claims.now }
+        ensures { awards.new ≡ dealt (S.scored self.now.standard.now) self.now.claims.now units }
+    {
+        let begun = self.begin(units, awards);
+        self.deal(begun, units, awards);
+    }
 }
 
 impl<S: Standard> Rulebook for UnitRule<S> {
@@ -71,9 +63,11 @@ impl<S: Standard> Rulebook for UnitRule<S> {
             awards.fill(0);
             return Ok(());
         }
-        let mut heads = [(0, 1); 32];
-        let n = claims.len();
-        divide(&self.standard, estate, claims, &mut heads[..n], awards);
+        let contest = Contest {
+            standard: &self.standard,
+            claims,
+        };
+        contest.divide(estate, awards);
         Ok(())
     }
 }

@@ -1,5 +1,0 @@
-use Rattle.rules.specs.Kept.{Small, UnderHeld}
-use Rattle.rules.proofs.guessing.least_held.Given as goal
-
-abbrev pub invariant-loop-k : goal.invariant-loop-k
-invariant-loop-k g l = Small l.least × UnderHeld (g.S.Standard.scored l.standard) l.claims l.held l.k l.least
