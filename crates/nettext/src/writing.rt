@@ -10,8 +10,7 @@ fn push_members(lines: &mut Vec<TextLine>, figures: &Figures) -> Result<(), Allo
     ensures { OnOk result (lines.new.items ≡ lines.old.items ++ member_lines figures.now figures.now.n) }
 {
     for member in 0..figures.n {
-        let m = figures.members[member as usize];
-        lines.push(TextLine::Member(member, m.house, m.class, m.endowment))?;
+        lines.push(TextLine::Member(member, figures.members[member as usize]))?;
     }
     Ok(())
 }
