@@ -71,7 +71,11 @@ pub(crate) fn parse_line(text: &str) -> Option<TextLine> {
     let line = match words.next()? {
         "members" => TextLine::Members(number(&mut words)?),
         "member" => member_line(&mut words)?,
-        "claim" => TextLine::Claim(number(&mut words)?, number(&mut words)?, number(&mut words)?),
+        "claim" => TextLine::Claim(
+            number(&mut words)?,
+            number(&mut words)?,
+            number(&mut words)?,
+        ),
         _ => return None,
     };
     words.next().is_none().then_some(line)

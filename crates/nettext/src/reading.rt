@@ -61,7 +61,9 @@ impl fmt::Display for BadLine {
 
 // A line without its comment.
 fn content(line: &str) -> &str {
-    line.split_once('#').map_or(line, |(before, _)| before).trim()
+    line.split_once('#')
+        .map_or(line, |(before, _)| before)
+        .trim()
 }
 
 // The number of members, from the line that says it.
