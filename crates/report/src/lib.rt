@@ -5,7 +5,6 @@ mod clearance;
 mod line;
 mod statement;
 mod task_line;
-mod writing;
 
 pub use clearance::{LONGEST_INPUT, Report, clear};
 pub use line::{Line, print};
