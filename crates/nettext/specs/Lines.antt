@@ -6,6 +6,6 @@ use Rattle.nettext.specs.declared.line.TextLine.TheVariants.{Members, Member, Cl
 
 abbrev pub text_of : TextLine → List ℕ
 text_of (Members n) = spaced (codes "members") (decimal n ∷ [])
-text_of (Member member house class endowment) =
-    spaced (codes "member") (decimal member ∷ codes "house" ∷ decimal house ∷ codes "class" ∷ decimal class ∷ codes "endowment" ∷ decimal endowment ∷ [])
+text_of (Member member entry) =
+    spaced (codes "member") (decimal member ∷ codes "house" ∷ decimal entry.house ∷ codes "class" ∷ decimal entry.class ∷ codes "endowment" ∷ decimal entry.endowment ∷ [])
 text_of (Claim debtor creditor units) = spaced (codes "claim") (decimal debtor ∷ decimal creditor ∷ decimal units ∷ [])

@@ -8,7 +8,7 @@ use Rattle.nettext.specs.declared.line.TextLine.TheVariants.{Members, Member, Cl
 -- the members below m
 abbrev pub member_lines : Figures → ℕ → List TextLine
 member_lines F zero = []
-member_lines F (suc m) = member_lines F m ++ Member m (member_at F m).house (member_at F m).class (member_at F m).endowment ∷ []
+member_lines F (suc m) = member_lines F m ++ Member m (member_at F m) ∷ []
 
 -- the claims above 0 of the creditors below c on debtor d
 abbrev pub row_lines : Figures → ℕ → ℕ → List TextLine

@@ -1,8 +1,9 @@
 // Reading a network's text into a draft. What stands behind a # is a comment, and empty lines are passed over.
 ghost use Rattle.std.specs.Prelude.{◌≡◌, OnErr};
+ghost use Rattle.nettext.specs.declared.reading.Slip.TheVariants.{Refused};
 
 use crate::line::{TextLine, parse_line};
-use network::{Draft, Fault, MEMBERS, Member, MemberCount};
+use network::{Draft, Fault, MemberCount};
 use std::fmt;
 
 // What is wrong with a line.
@@ -29,6 +30,14 @@ pub struct BadLine {
     pub slip: Slip,
 }
 
+impl From<Fault> for Slip {
+    ghost from_gives = { λ fault slip. slip ≡ Refused fault };
+
+    fn from(fault: Fault) -> Slip {
+        Slip::Refused(fault)
+    }
+}
+
 impl fmt::Display for Slip {
     fn fmt<W: fmt::Write>(&self, f: &mut fmt::Formatter<W>) -> fmt::Result {
         match *self {
@@ -37,13 +46,7 @@ impl fmt::Display for Slip {
             Slip::Member => f.write_str("not the next member"),
             Slip::Again => f.write_str("the claim was entered before"),
             Slip::Missing => f.write_str("members are missing"),
-            Slip::Refused(fault) => {
-                let cause = fault.cause.number();
-                let layer = fault.layer.name();
-                let debtor = fault.debtor;
-                let creditor = fault.creditor;
-                write!(f, "fault {cause} {layer} 0 {debtor} {creditor}")
-            }
+            Slip::Refused(fault) => write!(f, "{fault}"),
         }
     }
 }
@@ -58,94 +61,56 @@ impl fmt::Display for BadLine {
 
 // A line without its comment.
 fn content(line: &str) -> &str {
-    match line.split_once('#') {
-        Some((before, _)) => before.trim(),
-        None => line.trim(),
-    }
+    line.split_once('#')
+        .map_or(line, |(before, _)| before)
+        .trim()
 }
 
 // The number of members, from the line that says it.
 fn count_line(line: &str) -> Result<MemberCount, Slip> {
     match parse_line(line) {
-        Some(TextLine::Members(n)) => match MemberCount::new(n) {
-            Ok(count) => Ok(count),
-            Err(fault) => Err(Slip::Refused(fault)),
-        },
+        Some(TextLine::Members(n)) => Ok(MemberCount::new(n)?),
         _ => Err(Slip::Count),
     }
 }
 
 // The members that the text says there are, in its first line that is not empty.
 pub fn count_text(text: &str) -> Result<MemberCount, BadLine> {
-    for (i, line) in text.lines().enumerate() {
-        let line = content(line);
-        if !line.is_empty() {
-            let number = i.saturating_add(1);
-            return match count_line(line) {
-                Ok(count) => Ok(count),
-                Err(slip) => Err(BadLine { number, slip }),
-            };
-        }
-    }
-    Err(BadLine {
+    let mut lines = text.lines().map(content).enumerate();
+    let (i, line) = lines.find(|(_, line)| !line.is_empty()).ok_or(BadLine {
         number: 1,
         slip: Slip::Count,
-    })
+    })?;
+    let number = i.saturating_add(1);
+    count_line(line).map_err(|slip| BadLine { number, slip })
 }
 
 // Whether a claim stands in a draft.
 fn has_claim(draft: &Draft, debtor: u8, creditor: u8) -> bool {
-    let (i, j) = (debtor as usize, creditor as usize);
-    i < MEMBERS && j < MEMBERS && draft.figures().claims[i][j] > 0
+    let row = draft.figures().claims.get(debtor as usize);
+    let claim = row.and_then(|row| row.get(creditor as usize));
+    claim.is_some_and(|units| *units > 0)
 }
 
-// What a text has to go on with: its number of members, or a member, or claims.
-#[derive(Clone, Copy)]
-enum Due {
-    Count,
-    Member(u8),
-}
-
-// Enters one line, and says what is due behind it.
-fn enter(draft: &mut Draft, due: Due, line: TextLine) -> Result<Due, Slip> {
-    match (due, line) {
-        (Due::Count, TextLine::Members(n)) if n == draft.count().get() => Ok(Due::Member(0)),
-        (Due::Count, _) | (_, TextLine::Members(_)) => Err(Slip::Count),
-        (Due::Member(next), TextLine::Member(member, house, class, endowment)) => {
+// Enters one line, and answers the member that is due behind it. None is due while the number of members is not said.
+fn enter(draft: &mut Draft, due: Option<u8>, line: &str) -> Result<u8, Slip> {
+    match (due, parse_line(line).ok_or(Slip::NoLine)?) {
+        (None, TextLine::Members(n)) if n == draft.count().get() => Ok(0),
+        (None, _) | (_, TextLine::Members(_)) => Err(Slip::Count),
+        (Some(next), TextLine::Member(member, entry)) => {
             if member != next {
                 return Err(Slip::Member);
             }
-            let entry = Member {
-                house,
-                class,
-                endowment,
-            };
-            match draft.enter_member(member, entry) {
-                Ok(()) => Ok(Due::Member(next.saturating_add(1))),
-                Err(fault) => Err(Slip::Refused(fault)),
-            }
+            draft.enter_member(member, entry)?;
+            Ok(next.saturating_add(1))
         }
-        (Due::Member(next), TextLine::Claim(debtor, creditor, units)) => {
+        (Some(next), TextLine::Claim(debtor, creditor, units)) => {
             if has_claim(draft, debtor, creditor) {
                 return Err(Slip::Again);
             }
-            match draft.enter_claim(debtor, creditor, units) {
-                Ok(()) => Ok(Due::Member(next)),
-                Err(fault) => Err(Slip::Refused(fault)),
-            }
+            draft.enter_claim(debtor, creditor, units)?;
+            Ok(next)
         }
-    }
-}
-
-// Enters what a line says, unless it is empty.
-fn enter_text(draft: &mut Draft, due: Due, line: &str) -> Result<Due, Slip> {
-    let line = content(line);
-    if line.is_empty() {
-        return Ok(due);
-    }
-    match parse_line(line) {
-        Some(line) => enter(draft, due, line),
-        None => Err(Slip::NoLine),
     }
 }
 
@@ -155,23 +120,19 @@ pub fn load_text(draft: &mut Draft, text: &str) -> Result<(), BadLine>
     ensures { OnErr result (draft.new ≡ draft.old) }
 {
     let mut next = Draft::new(draft.count());
-    let mut due = Due::Count;
-    let mut number = 0usize;
-    for line in text.lines() {
-        number = number.saturating_add(1);
-        due = match enter_text(&mut next, due, line) {
-            Ok(due) => due,
-            Err(slip) => return Err(BadLine { number, slip }),
-        };
-    }
-    match due {
-        Due::Member(n) if n == draft.count().get() => {
-            *draft = next;
-            Ok(())
+    let mut due = None;
+    for (i, line) in text.lines().map(content).enumerate() {
+        if !line.is_empty() {
+            let number = i.saturating_add(1);
+            due = Some(enter(&mut next, due, line).map_err(|slip| BadLine { number, slip })?);
         }
-        _ => Err(BadLine {
-            number,
-            slip: Slip::Missing,
-        }),
     }
+    if due != Some(draft.count().get()) {
+        return Err(BadLine {
+            number: text.lines().count(),
+            slip: Slip::Missing,
+        });
+    }
+    *draft = next;
+    Ok(())
 }

@@ -1,6 +1,6 @@
 // Writing a network as text.
-ghost use Rattle.std.specs.Prelude.{◌≡◌, ◌<◌, ◌++◌, IfOk, OnOk};
-ghost use Rattle.nettext.specs.Networks.{claim_lines, lines_of, member_lines, row_lines};
+ghost use Rattle.std.specs.Prelude.{◌≡◌, ◌++◌, IfOk, OnOk};
+ghost use Rattle.nettext.specs.Networks.{claim_lines, lines_of, member_lines};
 
 use crate::line::TextLine;
 use network::Figures;
@@ -9,32 +9,16 @@ use std::alloc::{AllocError, Global};
 fn push_members(lines: &mut Vec<TextLine>, figures: &Figures) -> Result<(), AllocError>
     ensures { OnOk result (lines.new.items ≡ lines.old.items ++ member_lines figures.now figures.now.n) }
 {
-    for member in 0..figures.n {
-        let m = figures.members[member as usize];
-        lines.push(TextLine::Member(member, m.house, m.class, m.endowment))?;
-    }
-    Ok(())
-}
-
-// The claims on one debtor.
-fn push_row(lines: &mut Vec<TextLine>, figures: &Figures, debtor: u8) -> Result<(), AllocError>
-    requires { debtor < figures.now.n }
-    ensures { OnOk result (lines.new.items ≡ lines.old.items ++ row_lines figures.now debtor figures.now.n) }
-{
-    for creditor in 0..figures.n {
-        let units = figures.claims[debtor as usize][creditor as usize];
-        if units > 0 {
-            lines.push(TextLine::Claim(debtor, creditor, units))?;
-        }
-    }
-    Ok(())
+    let members = (0..figures.n).zip(&figures.members);
+    lines.extend(members.map(|(member, entry)| TextLine::Member(member, *entry)))
 }
 
 fn push_claims(lines: &mut Vec<TextLine>, figures: &Figures) -> Result<(), AllocError>
     ensures { OnOk result (lines.new.items ≡ lines.old.items ++ claim_lines figures.now figures.now.n) }
 {
-    for debtor in 0..figures.n {
-        push_row(lines, figures, debtor)?;
+    for (debtor, row) in (0..figures.n).zip(&figures.claims) {
+        let claims = (0..figures.n).zip(row).filter(|(_, units)| **units != 0);
+        lines.extend(claims.map(|(creditor, units)| TextLine::Claim(debtor, creditor, *units)))?;
     }
     Ok(())
 }

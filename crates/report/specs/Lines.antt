@@ -1,5 +1,6 @@
 -- The text of each line.
 use Rattle.std.specs.Prelude.{ℕ, List, [], ◌∷◌, ◌++◌, codes, decimal}
+use Rattle.std.specs.List.{flat_map}
 use Rattle.network.specs.Words.{spaced}
 use Rattle.network.specs.Faults.{fault_text}
 use Rattle.report.specs.declared.line.Line.{Line}
@@ -15,5 +16,4 @@ text_of TooLong = codes "too long"
 
 -- lines one below the other, each with its end
 abbrev pub printed : List Line → List ℕ
-printed [] = []
-printed (line ∷ lines) = (text_of line ++ codes "\n") ++ printed lines
+printed = flat_map (λ line. text_of line ++ codes "\n")

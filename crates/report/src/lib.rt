@@ -4,7 +4,6 @@
 mod clearance;
 mod line;
 mod statement;
-mod writing;
 
 pub use clearance::{LONGEST_INPUT, Report, clear};
 pub use line::{Line, print};
