@@ -1,85 +1,77 @@
 // Hand-picked cases, from a text. A line that begins with `>` is a file, or more of it, in hexadecimal; lines behind
 // it are what clear is to print of it, if any; an empty line ends the case. A line that begins with `#` is a comment.
 use crate::clearings::compare_clearing;
+use crate::engine::report_text;
 use crate::tally::Tally;
 use std::alloc::{AllocError, Global};
 
-// The case that is being read, and what came of those before it: the engine compared with what is settled, and
-// with the second implementation.
+// A file, and what is settled that clear prints of it, if anything.
 #[derive(Drop)]
-pub struct Cases {
-    given: bool,
+pub struct Case {
     file: Vec<u8>,
-    expected: String,
-    pub settled: Tally,
-    pub picked: Tally,
+    settled: String,
 }
 
-impl Cases {
-    pub fn new(heap: Global) -> Cases {
-        Cases {
-            given: false,
+impl Case {
+    fn new(heap: Global) -> Case {
+        Case {
             file: Vec::new(heap),
-            expected: String::new(heap),
-            settled: Tally::new(heap),
-            picked: Tally::new(heap),
+            settled: String::new(heap),
         }
     }
 
-    fn push_hexadecimal(&mut self, digits: &str) -> Result<(), AllocError> {
-        let mut high = None;
-        for c in digits.chars() {
-            if let Some(digit) = c.to_digit(16) {
-                high = match high {
-                    None => Some(digit),
-                    Some(other) => {
-                        self.file.push(((other << 4 | digit) & 0xff) as u8)?;
-                        None
-                    }
-                };
+    // Puts bytes behind the file; what is no digit is passed over.
+    fn push_hexadecimal(&mut self, heap: Global, text: &str) -> Result<(), AllocError> {
+        let digits = text.chars().filter_map(|c| c.to_digit(16));
+        let digits: Vec<u32> = digits.collect(heap)?;
+        for pair in digits.as_slice().chunks_exact(2) {
+            if let [high, low] = pair {
+                self.file.push(((high << 4 | low) & 0xff) as u8)?;
             }
         }
         Ok(())
     }
 
-    // Takes one line. Each case is compared at its end.
-    pub fn take(&mut self, line: &str) -> Result<(), AllocError> {
+    fn push_settled(&mut self, line: &str) -> Result<(), AllocError> {
+        writeln!(self.settled, "{line}")
+    }
+}
+
+// The cases of standard input.
+pub fn read_cases(rt: &HostRuntime) -> anyhow::Result<Vec<Case>> {
+    let heap = rt.alloc();
+    let mut cases = Vec::new(heap);
+    let mut open = None;
+    for line in rt.lines(heap) {
+        let line = line?;
+        let line = line.as_str();
         if line.is_empty() {
-            self.end();
-            return Ok(());
+            cases.extend(open.take())?;
+        } else if let Some(digits) = line.strip_prefix(">") {
+            let case = open.get_or_insert_with(|| Case::new(heap));
+            case.push_hexadecimal(heap, digits)?;
+        } else if let Some(case) = &mut open {
+            case.push_settled(line)?;
         }
-        if let Some(digits) = line.strip_prefix(">") {
-            self.given = true;
-            return self.push_hexadecimal(digits);
-        }
-        if self.given {
-            self.expected.push_str(line)?;
-            self.expected.push('\n')?;
-        }
-        Ok(())
     }
+    cases.extend(open)?;
+    Ok(cases)
+}
 
-    pub fn end(&mut self) {
-        if self.given {
-            compare_clearing(&mut self.picked, self.file.as_slice());
-            self.compare_settled();
-        }
-        self.given = false;
-        self.file.clear();
-        self.expected.clear();
+// The engine and the second implementation on each case.
+pub fn compare_picked(tally: &mut Tally, cases: &[Case]) -> Result<(), AllocError> {
+    for case in cases {
+        compare_clearing(tally, case.file.as_slice())?;
     }
+    Ok(())
+}
 
-    fn compare_settled(&mut self) {
-        if self.expected.is_empty() {
-            return;
-        }
-        let file = self.file.as_slice();
-        match report::clear(self.settled.heap, file) {
-            Ok(engine) => {
-                self.settled
-                    .note(file, engine.text.as_str(), self.expected.as_str())
-            }
-            Err(_) => self.settled.lose(),
-        }
+// The engine on each case of which it is settled what it is to print.
+pub fn compare_settled_cases(tally: &mut Tally, cases: &[Case]) -> Result<(), AllocError> {
+    for case in cases.iter().filter(|case| !case.settled.is_empty()) {
+        let file = case.file.as_slice();
+        let engine = report_text(tally.heap, file)?;
+        tally.compare(file, engine.as_str(), case.settled.as_str())?;
     }
+    Ok(())
 }

@@ -1,37 +1,25 @@
 // What the engine reports of a file, and what the second implementation does.
 use crate::damage::damaged;
 use crate::dice::Dice;
-use crate::shapes::{Scale, random_network};
+use crate::engine::clearing_text;
+use crate::shapes::{Scale, each_network};
 use crate::tally::Tally;
+use second::{Halt, clear};
 use std::alloc::{AllocError, Global};
 
-// The text that clear prints, and the status that it ends with.
-fn ending(heap: Global, text: &str, cleared: bool) -> Result<String, AllocError> {
-    let status = if cleared { 0 } else { 1 };
-    format!(in heap; "{text}status {status}\n")
-}
-
-fn engine_ending(heap: Global, file: &[u8]) -> Result<String, AllocError> {
-    let printed = report::clear(heap, file)?;
-    ending(heap, printed.text.as_str(), printed.cleared)
-}
-
-fn expected_ending(heap: Global, file: &[u8]) -> Result<String, AllocError> {
-    let printed = second::clear(heap, file)?;
-    ending(heap, printed.text.as_str(), printed.cleared)
-}
-
-pub fn compare_clearing(tally: &mut Tally, file: &[u8]) {
-    let heap = tally.heap;
-    tally.compare(file, engine_ending(heap, file), expected_ending(heap, file));
-}
-
-// The same of a file that there may have been no memory for.
-pub fn compare_made(tally: &mut Tally, file: Result<Vec<u8>, AllocError>) {
-    match file {
-        Ok(file) => compare_clearing(tally, file.as_slice()),
-        Err(_) => tally.lose(),
+// The text that clear is to print, and the status that it is to end with.
+fn expected_text(heap: Global, file: &[u8]) -> Result<String, AllocError> {
+    match clear(heap, file) {
+        Ok(text) => format!(in heap; "{text}status 0\n"),
+        Err(Halt::NoMemory(error)) => Err(error),
+        Err(halt) => format!(in heap; "{halt}\nstatus 1\n"),
     }
+}
+
+pub fn compare_clearing(tally: &mut Tally, file: &[u8]) -> Result<(), AllocError> {
+    let engine = clearing_text(tally.heap, file)?;
+    let expected = expected_text(tally.heap, file)?;
+    tally.compare(file, engine.as_str(), expected.as_str())
 }
 
 // One network in 20 has few members with large claims.
@@ -47,31 +35,32 @@ fn random_scale(dice: &mut Dice) -> Scale {
     }
 }
 
-pub fn compare_networks(dice: &mut Dice, tally: &mut Tally, count: u32) {
-    for _network in 0..count {
-        let scale = random_scale(dice);
-        compare_made(tally, random_network(tally.heap, dice, scale));
+pub fn compare_networks(dice: &mut Dice, tally: &mut Tally, count: u32) -> Result<(), AllocError> {
+    each_network(tally.heap, dice, count, random_scale, |_, file| {
+        compare_clearing(tally, file)
+    })
+}
+
+fn small_scale(dice: &mut Dice) -> Scale {
+    Scale {
+        n: dice.byte(1, 5),
+        richest: 30,
+        largest: 20,
     }
 }
 
 // A file damaged in ten ways.
-fn compare_ten(dice: &mut Dice, tally: &mut Tally, file: &[u8]) {
+fn compare_ten(dice: &mut Dice, tally: &mut Tally, file: &[u8]) -> Result<(), AllocError> {
     for _way in 0..10u32 {
-        compare_made(tally, damaged(tally.heap, dice, file));
+        let file = damaged(tally.heap, dice, file)?;
+        compare_clearing(tally, file.as_slice())?;
     }
+    Ok(())
 }
 
 // Small files, each damaged in ten ways.
-pub fn compare_damaged(dice: &mut Dice, tally: &mut Tally, count: u32) {
-    for _network in 0..count / 10 {
-        let scale = Scale {
-            n: dice.byte(1, 5),
-            richest: 30,
-            largest: 20,
-        };
-        match random_network(tally.heap, dice, scale) {
-            Ok(file) => compare_ten(dice, tally, file.as_slice()),
-            Err(_) => tally.lose(),
-        }
-    }
+pub fn compare_damaged(dice: &mut Dice, tally: &mut Tally, count: u32) -> Result<(), AllocError> {
+    each_network(tally.heap, dice, count / 10, small_scale, |dice, file| {
+        compare_ten(dice, tally, file)
+    })
 }

@@ -1,38 +1,42 @@
 // Damaged files.
 use crate::dice::Dice;
 use std::alloc::{AllocError, Global};
+use std::ops::Range;
 
-// A part of a file: its first byte, and the byte behind its last.
-type Part = (usize, usize);
-
-fn bytes_of(file: &[u8], part: Part) -> &[u8] {
-    let end = part.1.min(file.len());
-    &file[part.0.min(end)..end]
+// The bytes of a part, as far as the file has them.
+fn bytes_of<'a>(file: &'a [u8], part: &Range<usize>) -> &'a [u8] {
+    let end = part.end.min(file.len());
+    &file[part.start.min(end)..end]
 }
 
 // The file with other bytes in the place of a part.
-fn spliced(heap: Global, file: &[u8], part: Part, bytes: &[u8]) -> Result<Vec<u8>, AllocError> {
+fn spliced(
+    heap: Global,
+    file: &[u8],
+    part: &Range<usize>,
+    bytes: &[u8],
+) -> Result<Vec<u8>, AllocError> {
     let mut damaged = Vec::new(heap);
-    damaged.extend_from_slice(bytes_of(file, (0, part.0)))?;
+    damaged.extend_from_slice(bytes_of(file, &(0..part.start)))?;
     damaged.extend_from_slice(bytes)?;
-    damaged.extend_from_slice(bytes_of(file, (part.1, file.len())))?;
+    damaged.extend_from_slice(bytes_of(file, &(part.end..file.len())))?;
     Ok(damaged)
 }
 
 // The records of a file.
-fn records_of(heap: Global, file: &[u8]) -> Result<Vec<Part>, AllocError> {
+fn records_of(heap: Global, file: &[u8]) -> Result<Vec<Range<usize>>, AllocError> {
     let mut records = Vec::new(heap);
     let mut next = 0usize;
-    for at in 0..file.len() {
+    for (at, kind) in file.iter().enumerate() {
         if at == next {
-            let length = match file[at] {
+            let length = match kind {
                 1 => 2,
                 2 => 8,
                 3 => 7,
                 _ => 1,
             };
             next = at.saturating_add(length);
-            records.push((at, next))?;
+            records.push(at..next)?;
         }
     }
     Ok(records)
@@ -43,16 +47,19 @@ fn random_place(dice: &mut Dice, length: usize) -> usize {
     dice.between(0, most.saturating_sub(1)) as usize
 }
 
-fn random_record(dice: &mut Dice, records: &[Part]) -> Part {
-    records
-        .get(random_place(dice, records.len()))
-        .copied()
-        .unwrap_or((0, 0))
+fn random_record<'a>(dice: &mut Dice, records: &'a [Range<usize>]) -> &'a Range<usize> {
+    let place = random_place(dice, records.len());
+    records.get(place).unwrap_or(&(0..0))
 }
 
 // The file with two of its records in each other's place.
-fn swapped(heap: Global, file: &[u8], one: Part, other: Part) -> Result<Vec<u8>, AllocError> {
-    let (low, high) = if one.0 < other.0 {
+fn swapped(
+    heap: Global,
+    file: &[u8],
+    one: &Range<usize>,
+    other: &Range<usize>,
+) -> Result<Vec<u8>, AllocError> {
+    let (low, high) = if one.start < other.start {
         (one, other)
     } else {
         (other, one)
@@ -78,11 +85,11 @@ fn damage_records(heap: Global, dice: &mut Dice, file: &[u8]) -> Result<Vec<u8>,
     let other = random_record(dice, records.as_slice());
     match dice.between(1, 4) {
         1 => swapped(heap, file, one, other),
-        2 => spliced(heap, file, (other.0, other.0), bytes_of(file, one)),
+        2 => spliced(heap, file, &(other.start..other.start), bytes_of(file, one)),
         3 => spliced(heap, file, one, &[]),
         _ => {
             let number = random_number(dice).to_be_bytes();
-            spliced(heap, file, (one.1.saturating_sub(4), one.1), &number)
+            spliced(heap, file, &(one.end.saturating_sub(4)..one.end), &number)
         }
     }
 }
@@ -100,19 +107,19 @@ fn damage_bytes(heap: Global, dice: &mut Dice, file: &[u8]) -> Result<Vec<u8>, A
         1 => {
             let old = file.get(at).copied().unwrap_or(0);
             let bit = 1u8.wrapping_shl(dice.between(0, 7));
-            spliced(heap, file, (at, next), &[old ^ bit])
+            spliced(heap, file, &(at..next), &[old ^ bit])
         }
-        2 => spliced(heap, file, (at, next), &[byte]),
-        3 => spliced(heap, file, (at, at), &[byte]),
-        4 => spliced(heap, file, (at, next), &[]),
-        5 => spliced(heap, file, (at, file.len()), &[]),
-        _ => spliced(heap, file, (file.len(), file.len()), &[byte]),
+        2 => spliced(heap, file, &(at..next), &[byte]),
+        3 => spliced(heap, file, &(at..at), &[byte]),
+        4 => spliced(heap, file, &(at..next), &[]),
+        5 => spliced(heap, file, &(at..file.len()), &[]),
+        _ => spliced(heap, file, &(file.len()..file.len()), &[byte]),
     }
 }
 
 // The file with one to three kinds of damage.
 pub fn damaged(heap: Global, dice: &mut Dice, file: &[u8]) -> Result<Vec<u8>, AllocError> {
-    let mut damaged = spliced(heap, file, (0, 0), &[])?;
+    let mut damaged = file.to_vec(heap)?;
     for _time in 0..dice.between(1, 3) {
         damaged = if dice.once_in(2) {
             damage_records(heap, dice, damaged.as_slice())?

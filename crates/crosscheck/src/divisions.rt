@@ -1,13 +1,12 @@
 // Divisions of an estate, straight by the rulebooks.
+use crate::both::read_both;
 use crate::dice::Dice;
-use crate::engine::draft_of;
 use crate::shapes::{Scale, random_network};
 use crate::tally::Tally;
-use network::Fault;
-use report::Line;
 use rules::{RingRulebook, Rulebook, ring_rulebook};
-use second::{Halt, Rules, Text, awards, read};
+use second::{Halt, Rules, awards};
 use std::alloc::{AllocError, Global};
+use std::fmt;
 
 // What is to be divided, by the rule of which house, and for how many awards there is room.
 #[derive(Drop)]
@@ -21,16 +20,26 @@ struct Division {
 // What stands in the buffer before a division; a refused one leaves it.
 const BEFORE: u32 = 7;
 
-fn push_numbers(text: &mut Text, numbers: &[u32]) {
-    for number in numbers {
-        text.push_number(*number as usize);
+// Numbers to the end of a line, each behind a space.
+#[derive(Clone, Copy)]
+struct Numbers<'a>(&'a [u32]);
+
+impl fmt::Display for Numbers<'_> {
+    fn fmt<W: fmt::Write>(&self, f: &mut fmt::Formatter<W>) -> fmt::Result {
+        for number in self.0 {
+            write!(f, " {number}")?;
+        }
+        writeln!(f)
     }
-    text.push_str("\n");
 }
 
-fn fault_text(heap: Global, fault: Fault) -> Result<String, AllocError> {
-    let line = Line::Fault(fault);
-    format!(in heap; "{line}")
+// The division itself, to be told from others.
+impl fmt::Display for Division {
+    fn fmt<W: fmt::Write>(&self, f: &mut fmt::Formatter<W>) -> fmt::Result {
+        let (house, estate) = (self.house, self.estate);
+        let claims = Numbers(self.claims.as_slice());
+        write!(f, "house {house} estate {estate} claims{claims}")
+    }
 }
 
 fn random_claim(dice: &mut Dice) -> u32 {
@@ -45,10 +54,9 @@ fn random_claim(dice: &mut Dice) -> u32 {
 impl Division {
     fn random(heap: Global, dice: &mut Dice) -> Result<Division, AllocError> {
         let most = if dice.once_in(4) { 33 } else { 6 };
-        let mut claims = Vec::new(heap);
-        for _creditor in 0..dice.between(0, most) {
-            claims.push(random_claim(dice))?;
-        }
+        let claims: Vec<u32> = (0..dice.between(0, most))
+            .map(|_| random_claim(dice))
+            .collect(heap)?;
         let estate = match dice.between(1, 10) {
             1 => u32::MAX,
             2 => dice.between(0, 400),
@@ -63,47 +71,40 @@ impl Division {
         })
     }
 
-    // The division itself, to be told from others.
-    fn text(&self, heap: Global) -> Text {
-        let mut text = Text::new(heap);
-        text.say("house", &[self.house as usize]);
-        text.say(" estate", &[self.estate as usize]);
-        text.push_str(" claims");
-        push_numbers(&mut text, self.claims.as_slice());
-        text
+    // The division, why it is refused if it is, and what stands in the buffer afterwards.
+    fn text<E: fmt::Display + Drop, F: FnOnce(&mut [u32]) -> Result<Result<(), E>, AllocError>>(
+        &self,
+        heap: Global,
+        divide: F,
+    ) -> Result<String, AllocError>
+        requires { F.IsAlwaysCallable divide }
+    {
+        let mut text = self.to_string(heap)?;
+        let mut buffer = vec![in heap; BEFORE; self.room]?;
+        if let Err(refusal) = divide(buffer.as_mut_slice())? {
+            write!(text, "{refusal}")?;
+        }
+        let numbers = Numbers(buffer.as_slice());
+        write!(text, "{numbers}")?;
+        Ok(text)
     }
 
     fn engine_text(&self, heap: Global, rulebook: &RingRulebook) -> Result<String, AllocError> {
-        let mut text = self.text(heap);
-        let mut buffer = vec![in heap; BEFORE; self.room]?;
         let claims = self.claims.as_slice();
-        match rulebook.awards(self.house, self.estate, claims, buffer.as_mut_slice()) {
-            Ok(()) => {}
-            Err(fault) => text.push_str(fault_text(heap, fault)?.as_str()),
-        }
-        push_numbers(&mut text, buffer.as_slice());
-        text.finish()
+        self.text(heap, |buffer| {
+            Ok(rulebook.awards(self.house, self.estate, claims, buffer))
+        })
     }
 
     fn expected_text(&self, heap: Global, classes: &[u8]) -> Result<String, AllocError> {
-        let mut text = self.text(heap);
-        let mut buffer = vec![in heap; BEFORE; self.room]?;
-        let rule = Rules::Ring.of_house(self.house);
         let claims = self.claims.as_slice();
-        match awards(
-            heap,
-            rule,
-            classes,
-            self.estate,
-            claims,
-            buffer.as_mut_slice(),
-        ) {
-            Ok(()) => {}
-            Err(Halt::Refused(refusal)) => refusal.print(&mut text),
-            Err(Halt::NoMemory) => return Err(AllocError),
-        }
-        push_numbers(&mut text, buffer.as_slice());
-        text.finish()
+        let rule = Rules::Ring.of_house(self.house);
+        self.text(heap, |buffer| {
+            match awards(heap, rule, classes, self.estate, claims, buffer) {
+                Err(Halt::NoMemory(error)) => Err(error),
+                answer => Ok(answer),
+            }
+        })
     }
 }
 
@@ -116,17 +117,16 @@ pub fn compare_divisions(dice: &mut Dice, tally: &mut Tally, count: u32) -> Resu
         largest: 1,
     };
     let file = random_network(heap, dice, scale)?;
-    let (Ok(network), Some(draft)) = (read(file.as_slice()), draft_of(file.as_slice())) else {
-        tally.note(file.as_slice(), "not a network to both sides", "");
+    let Some((network, draft)) = read_both(tally, file.as_slice())? else {
         return Ok(());
     };
     let rulebook = ring_rulebook(draft.figures());
-    let classes = network.classes();
+    let classes = network.classes(heap)?;
     for _division in 0..count {
         let division = Division::random(heap, dice)?;
-        let text = division.engine_text(heap, &rulebook);
-        let expected = division.expected_text(heap, &classes);
-        tally.compare(file.as_slice(), text, expected);
+        let text = division.engine_text(heap, &rulebook)?;
+        let expected = division.expected_text(heap, classes.as_slice())?;
+        tally.compare(file.as_slice(), text.as_str(), expected.as_str())?;
     }
     Ok(())
 }

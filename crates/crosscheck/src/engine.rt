@@ -7,19 +7,22 @@ use std::alloc::{AllocError, Global};
 
 // The draft of a network file.
 pub fn draft_of(file: &[u8]) -> Option<Draft> {
-    let Ok(count) = count(file) else {
-        return None;
-    };
-    let mut draft = Draft::new(count);
-    if load(&mut draft, file).is_err() {
-        return None;
-    }
+    let mut draft = Draft::new(count(file).ok()?);
+    load(&mut draft, file).ok()?;
     Some(draft)
 }
 
-fn push_task(heap: Global, text: &mut String, task: Task) -> Result<(), AllocError> {
-    let shown = format!(in heap; "{task}\n")?;
-    text.push_str(shown.as_str())
+// What clear prints of a file.
+pub fn report_text(heap: Global, file: &[u8]) -> Result<String, AllocError> {
+    Ok(report::clear(heap, file)?.text)
+}
+
+// The same, and the status that it ends with.
+pub fn clearing_text(heap: Global, file: &[u8]) -> Result<String, AllocError> {
+    let report = report::clear(heap, file)?;
+    let text = report.text.as_str();
+    let status = if report.cleared { 0 } else { 1 };
+    format!(in heap; "{text}status {status}\n")
 }
 
 fn sheet_text(heap: Global, sheet: &Sheet) -> Result<String, AllocError> {
@@ -31,7 +34,7 @@ fn sheet_text(heap: Global, sheet: &Sheet) -> Result<String, AllocError> {
 pub fn life_text(heap: Global, tasks: &[Task], sheet: &Sheet) -> Result<String, AllocError> {
     let mut text = String::new(heap);
     for task in tasks {
-        push_task(heap, &mut text, *task)?;
+        writeln!(text, "{task}")?;
     }
     text.push_str(sheet_text(heap, sheet)?.as_str())?;
     Ok(text)

@@ -1,42 +1,37 @@
 // Counting the refusals in what is compared.
+use std::alloc::{AllocError, Global};
+use std::collections::BTreeMap;
 
 // How often each fault came up, by its number.
-#[derive(Clone, Copy)]
+#[derive(Drop)]
 pub struct Refusals {
-    times: [u32; 16],
+    times: BTreeMap<usize, u32>,
 }
 
 // The number of the fault that a line is, or that the call in it is answered by.
 fn fault_of(line: &str) -> Option<usize> {
-    let answer = match line.split_once(": ") {
-        Some((_, answer)) => answer,
-        None => line,
-    };
+    let answer = line.split_once(": ").map_or(line, |(_, answer)| answer);
     let (number, _) = answer.strip_prefix("fault ")?.split_once(' ')?;
     number.parse::<usize>().ok()
 }
 
 impl Refusals {
-    pub fn none() -> Refusals {
-        Refusals { times: [0; 16] }
+    pub fn none(heap: Global) -> Refusals {
+        Refusals {
+            times: BTreeMap::new(heap),
+        }
     }
 
     // Counts the refusals in the lines of a text.
-    pub fn count(&mut self, text: &str) {
-        for line in text.lines() {
-            if let Some(fault) = fault_of(line) {
-                self.add(fault);
-            }
+    pub fn count(&mut self, text: &str) -> Result<(), AllocError> {
+        for fault in text.lines().filter_map(fault_of) {
+            let times = self.times.entry(fault)?.or_insert(0);
+            *times = times.saturating_add(1);
         }
-    }
-
-    fn add(&mut self, fault: usize) {
-        if fault < 16 {
-            self.times[fault] = self.times[fault].saturating_add(1);
-        }
+        Ok(())
     }
 
     pub fn times(&self, fault: usize) -> u32 {
-        if fault < 16 { self.times[fault] } else { 0 }
+        self.times.get(&fault).copied().unwrap_or(0)
     }
 }

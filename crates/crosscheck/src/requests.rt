@@ -35,13 +35,12 @@ const MOST: u32 = 40;
 
 // Requests in a network of n members.
 pub fn random_requests(heap: Global, dice: &mut Dice, n: u8) -> Result<Vec<Request>, AllocError> {
-    let mut requests = Vec::new(heap);
-    for _request in 0..dice.between(0, MOST) {
-        requests.push(random_request(dice, n))?;
-    }
-    Ok(requests)
+    (0..dice.between(0, MOST))
+        .map(|_| random_request(dice, n))
+        .collect(heap)
 }
 
+// Both types are of other crates, so that no `From` between them can stand here.
 pub fn call_of(request: Request) -> Call {
     match request {
         Request::Pay(debtor, creditor, units) => Call::Pay(debtor, creditor, units),
@@ -55,12 +54,11 @@ pub fn call_of(request: Request) -> Call {
 }
 
 pub fn tasks_of(heap: Global, requests: &[Request]) -> Result<Vec<Task>, AllocError> {
-    let mut tasks = Vec::new(heap);
-    for request in requests {
-        tasks.push(Task {
+    requests
+        .iter()
+        .map(|request| Task {
             call: call_of(*request),
             answer: None,
-        })?;
-    }
-    Ok(tasks)
+        })
+        .collect(heap)
 }

@@ -1,8 +1,9 @@
 // Random orders of work on books under rulebooks that change from call to call, so that members recede.
+use crate::both::{Life, read_both};
 use crate::dice::Dice;
-use crate::engine::{draft_of, life_text};
+use crate::engine::life_text;
 use crate::requests::{call_of, random_requests};
-use crate::shapes::{Scale, random_network};
+use crate::shapes::{Scale, each_network};
 use crate::tally::Tally;
 use book::{Answer, Book, Call, Task};
 use network::Draft;
@@ -10,7 +11,7 @@ use rules::{
     ClassTable, Classes, Dual, EqualAwards, Jefferson, Priority, RingRulebook, UnitRule,
     ring_rulebook,
 };
-use second::{Ledger, Network, Request, Rule, Rules, Text, print_sheet, read};
+use second::{Network, Request, Rule, Rules};
 use std::alloc::{AllocError, Global};
 
 // The rulebooks of one network.
@@ -67,65 +68,63 @@ struct Step {
 
 // Steps in a network of n members.
 fn random_steps(heap: Global, dice: &mut Dice, n: u8) -> Result<Vec<Step>, AllocError> {
-    let mut steps = Vec::new(heap);
-    for request in &random_requests(heap, dice, n)? {
-        steps.push(Step {
+    let requests = random_requests(heap, dice, n)?;
+    requests
+        .iter()
+        .map(|request| Step {
             request: *request,
             rules: random_rules(dice),
-        })?;
-    }
-    Ok(steps)
+        })
+        .collect(heap)
 }
 
 fn engine_text(heap: Global, draft: Draft, steps: &[Step]) -> Result<String, AllocError> {
     let shelf = Shelf::of(&draft);
     let mut book = Book::open(draft);
-    let mut tasks = Vec::new(heap);
-    for step in steps {
-        let call = call_of(step.request);
-        let answer = Some(shelf.perform(&mut book, step.rules, call));
-        tasks.push(Task { call, answer })?;
-    }
+    let tasks: Vec<Task> = steps
+        .iter()
+        .map(|step| {
+            let call = call_of(step.request);
+            let answer = Some(shelf.perform(&mut book, step.rules, call));
+            Task { call, answer }
+        })
+        .collect(heap)?;
     let sheet = book.close(&shelf.ring);
     life_text(heap, tasks.as_slice(), &sheet)
 }
 
 // What the second implementation has of such a life.
 fn expected_text(heap: Global, network: &Network, steps: &[Step]) -> Result<String, AllocError> {
-    let mut text = Text::new(heap);
-    let mut ledger = Ledger::open(network);
+    let mut life = Life::open(heap, network)?;
     for step in steps {
         let queues = step.rules.queues(heap, network)?;
-        ledger.perform(queues.as_slice(), step.request, &mut text);
-        text.push_str("\n");
+        life.perform(queues.as_slice(), step.request)?;
     }
     let queues = Rules::Ring.queues(heap, network)?;
-    let account = ledger.close(queues.as_slice(), network.units_of_claims());
-    print_sheet(&mut text, network, &ledger.payments, account);
-    text.finish()
+    life.close(queues.as_slice(), None)
 }
 
 fn compare_on(dice: &mut Dice, tally: &mut Tally, file: &[u8]) -> Result<(), AllocError> {
-    let (Ok(network), Some(draft)) = (read(file), draft_of(file)) else {
-        tally.note(file, "not a network to both sides", "");
+    let Some((network, draft)) = read_both(tally, file)? else {
         return Ok(());
     };
     let heap = tally.heap;
     let steps = random_steps(heap, dice, draft.count().get())?;
-    let text = engine_text(heap, draft, steps.as_slice());
-    tally.compare(file, text, expected_text(heap, &network, steps.as_slice()));
-    Ok(())
+    let text = engine_text(heap, draft, steps.as_slice())?;
+    let expected = expected_text(heap, &network, steps.as_slice())?;
+    tally.compare(file, text.as_str(), expected.as_str())
+}
+
+fn small_scale(dice: &mut Dice) -> Scale {
+    Scale {
+        n: dice.byte(2, 6),
+        richest: 15,
+        largest: 8,
+    }
 }
 
 pub fn compare_changing(dice: &mut Dice, tally: &mut Tally, count: u32) -> Result<(), AllocError> {
-    for _network in 0..count {
-        let scale = Scale {
-            n: dice.byte(2, 6),
-            richest: 15,
-            largest: 8,
-        };
-        let file = random_network(tally.heap, dice, scale)?;
-        compare_on(dice, tally, file.as_slice())?;
-    }
-    Ok(())
+    each_network(tally.heap, dice, count, small_scale, |dice, file| {
+        compare_on(dice, tally, file)
+    })
 }

@@ -29,24 +29,25 @@ fn expect<R: Rulebook>(
     estate: u32,
     claims: &[u32],
     awards: &[u32],
-) {
+) -> Result<(), AllocError> {
     let heap = tally.heap;
-    let text = awards_text(heap, rulebook, estate, claims);
-    tally.compare(&[], text, format!(in heap; "true {awards:?}"));
+    let text = awards_text(heap, rulebook, estate, claims)?;
+    let expected = format!(in heap; "true {awards:?}")?;
+    tally.compare(&[], text.as_str(), expected.as_str())
 }
 
-pub fn compare_settled(tally: &mut Tally) {
+pub fn compare_settled(tally: &mut Tally) -> Result<(), AllocError> {
     let equal_awards = UnitRule::new(EqualAwards);
-    expect(tally, &equal_awards, 6, &[1, 4, 4], &[1, 3, 2]);
+    expect(tally, &equal_awards, 6, &[1, 4, 4], &[1, 3, 2])?;
     let jefferson = UnitRule::new(Jefferson);
-    expect(tally, &jefferson, 2, &[6, 3], &[2, 0]);
-    expect(tally, &jefferson, 3, &[6, 3], &[2, 1]);
+    expect(tally, &jefferson, 2, &[6, 3], &[2, 0])?;
+    expect(tally, &jefferson, 3, &[6, 3], &[2, 1])?;
     let dual = Dual::new(UnitRule::new(EqualAwards));
-    expect(tally, &dual, 1, &[1, 1], &[0, 1]);
+    expect(tally, &dual, 1, &[1, 1], &[0, 1])?;
     let Some(draft) = draft_of(&CLASSED) else {
-        return tally.note(&CLASSED, "no network", "");
+        return tally.compare(&CLASSED, "no network", "");
     };
     let table = ClassTable::of(draft.figures());
     let classes = Classes::new(UnitRule::new(EqualAwards), table);
-    expect(tally, &classes, 3, &[5, 2, 2], &[0, 2, 1]);
+    expect(tally, &classes, 3, &[5, 2, 2], &[0, 2, 1])
 }

@@ -67,7 +67,12 @@ impl Scale {
     }
 }
 
-fn push_random_member(dice: &mut Dice, file: &mut Records, member: u8, richest: u32) {
+fn push_random_member(
+    dice: &mut Dice,
+    file: &mut Records,
+    member: u8,
+    richest: u32,
+) -> Result<(), AllocError> {
     let house = match dice.byte(0, 7) {
         7 => 255,
         house => house,
@@ -78,22 +83,44 @@ fn push_random_member(dice: &mut Dice, file: &mut Records, member: u8, richest: 
     } else {
         dice.between(0, richest)
     };
-    file.push_member(member, house, class, endowment);
+    file.push_member(member, house, class, endowment)
 }
 
 pub fn random_network(heap: Global, dice: &mut Dice, scale: Scale) -> Result<Vec<u8>, AllocError> {
     let mut file = Records::new(heap);
     let shape = Shape::random(dice);
-    file.push_network(scale.n);
+    file.push_network(scale.n)?;
     for member in 0..scale.n {
-        push_random_member(dice, &mut file, member, scale.richest);
+        push_random_member(dice, &mut file, member, scale.richest)?;
     }
     for debtor in 0..scale.n {
         for creditor in 0..scale.n {
             if debtor != creditor && shape.links(dice, scale.n, debtor, creditor) {
-                file.push_claim(debtor, creditor, dice.between(1, scale.largest));
+                file.push_claim(debtor, creditor, dice.between(1, scale.largest))?;
             }
         }
     }
     file.finish()
+}
+
+// Gives so many random networks to a closure, each of a scale that is drawn for it.
+pub fn each_network<S, F>(
+    heap: Global,
+    dice: &mut Dice,
+    count: u32,
+    scale: S,
+    mut visit: F,
+) -> Result<(), AllocError>
+where
+    S: Fn(&mut Dice) -> Scale,
+    F: FnMut(&mut Dice, &[u8]) -> Result<(), AllocError>,
+    requires scales { S.IsAlwaysCallable scale }
+    requires visits { F.IsAlwaysCallable visit }
+{
+    for _network in 0..count {
+        let scale = scale(dice);
+        let file = random_network(heap, dice, scale)?;
+        visit(dice, file.as_slice())?;
+    }
+    Ok(())
 }

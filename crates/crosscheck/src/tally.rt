@@ -1,32 +1,42 @@
 // Counting what was compared, and keeping the first difference.
 use crate::refusals::Refusals;
-use anyhow::anyhow;
 use std::alloc::{AllocError, Global};
+use std::fmt;
 
-// How many cases were compared and how many differ, the refusals in them, and the first case that differs: its
-// input in hexadecimal, and what each side says. Where memory is lacking a case is lost, and that is noted.
+// A case that differs: its input, and what each side says.
+#[derive(Drop)]
+struct Difference {
+    input: Vec<u8>,
+    engine: String,
+    other: String,
+}
+
+// The input in hexadecimal, and the two texts below it.
+impl fmt::Display for Difference {
+    fn fmt<W: fmt::Write>(&self, f: &mut fmt::Formatter<W>) -> fmt::Result {
+        for byte in self.input.iter() {
+            write!(f, "{byte:02x}")?;
+        }
+        let (engine, other) = (self.engine.as_str(), self.other.as_str());
+        write!(f, "\nengine:\n{engine}\nother:\n{other}\n")
+    }
+}
+
+// How many cases were compared and how many differ, the refusals in them, and the first case that differs.
 #[derive(Drop)]
 pub struct Tally {
     pub heap: Global,
     compared: u32,
     differ: u32,
     refusals: Refusals,
-    first: String,
-    lost: bool,
+    first: Option<Difference>,
 }
 
-fn hexadecimal(heap: Global, bytes: &[u8]) -> Result<String, AllocError> {
-    let mut text = String::new(heap);
-    for byte in bytes {
-        let digits = format!(in heap; "{byte:02x}")?;
-        text.push_str(digits.as_str())?;
+impl fmt::Display for Tally {
+    fn fmt<W: fmt::Write>(&self, f: &mut fmt::Formatter<W>) -> fmt::Result {
+        let (compared, differ) = (self.compared, self.differ);
+        write!(f, "{compared} compared, {differ} differ")
     }
-    Ok(text)
-}
-
-fn difference(heap: Global, input: &[u8], engine: &str, other: &str) -> Result<String, AllocError> {
-    let digits = hexadecimal(heap, input)?;
-    format!(in heap; "{digits}\nengine:\n{engine}\nother:\n{other}\n")
 }
 
 impl Tally {
@@ -35,77 +45,41 @@ impl Tally {
             heap,
             compared: 0,
             differ: 0,
-            refusals: Refusals::none(),
-            first: String::new(heap),
-            lost: false,
+            refusals: Refusals::none(heap),
+            first: None,
         }
     }
 
-    // Notes that there was no memory for a case.
-    pub fn lose(&mut self) {
-        self.lost = true;
-    }
-
-    // Notes what the engine and the other side say of an input.
-    pub fn note(&mut self, input: &[u8], engine: &str, other: &str) {
+    // Compares what the engine and the other side say of an input.
+    pub fn compare(&mut self, input: &[u8], engine: &str, other: &str) -> Result<(), AllocError> {
         self.compared = self.compared.saturating_add(1);
-        self.refusals.count(engine);
+        self.refusals.count(engine)?;
         if engine != other {
-            if self.differ == 0 {
-                self.note_first(input, engine, other);
-            }
             self.differ = self.differ.saturating_add(1);
-        }
-    }
-
-    fn note_first(&mut self, input: &[u8], engine: &str, other: &str) {
-        match difference(self.heap, input, engine, other) {
-            Ok(first) => self.first = first,
-            Err(_) => self.lose(),
-        }
-    }
-
-    // The same of texts that there may have been no memory for.
-    pub fn compare(
-        &mut self,
-        input: &[u8],
-        engine: Result<String, AllocError>,
-        other: Result<String, AllocError>,
-    ) {
-        if let Ok(engine) = engine {
-            if let Ok(other) = other {
-                return self.note(input, engine.as_str(), other.as_str());
+            if self.first.is_none() {
+                self.first = Some(Difference {
+                    input: input.to_vec(self.heap)?,
+                    engine: String::from_str(self.heap, engine)?,
+                    other: String::from_str(self.heap, other)?,
+                });
             }
         }
-        self.lose();
-    }
-
-    // Prints the count, and if something differs the first difference and how often each of these faults came up;
-    // answers whether nothing differs.
-    pub fn print(&self, rt: &HostRuntime, name: &str, faults: &[usize]) -> anyhow::Result<bool> {
-        let compared = self.compared;
-        let differ = self.differ;
-        println!(rt; "{name}: {compared} compared, {differ} differ")?;
-        if self.differ > 0 {
-            self.print_first(rt)?;
-            self.print_refusals(rt, faults)?;
-        }
-        if self.lost {
-            return Err(anyhow!("a case was lost for want of memory"));
-        }
-        Ok(differ == 0)
-    }
-
-    fn print_first(&self, rt: &HostRuntime) -> anyhow::Result<()> {
-        let first = self.first.as_str();
-        println!(rt; "the first that differs: {first}")?;
         Ok(())
     }
 
-    fn print_refusals(&self, rt: &HostRuntime, faults: &[usize]) -> anyhow::Result<()> {
-        for fault in faults {
-            let times = self.refusals.times(*fault);
-            println!(rt; "  refused by fault {fault}: {times}")?;
+    pub fn agrees(&self) -> bool {
+        self.first.is_none()
+    }
+
+    // Prints the count, and if something differs the first difference and how often each of these faults came up.
+    pub fn print(&self, rt: &HostRuntime, name: &str, faults: &[usize]) -> anyhow::Result<()> {
+        println!(rt; "{name}: {self}")?;
+        if let Some(first) = &self.first {
+            println!(rt; "the first that differs: {first}")?;
+            for fault in faults {
+                let times = self.refusals.times(*fault);
+                println!(rt; "  refused by fault {fault}: {times}")?;
+            }
         }
         Ok(())
     }

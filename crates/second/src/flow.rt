@@ -1,86 +1,103 @@
 // Clearing a network from no payments, by paying on along the queues.
-use crate::matrix::Matrix;
 use crate::network::Network;
+use crate::payments::Payments;
 use crate::queue::front;
-use crate::row::Row;
+use crate::request::Round;
 use crate::statement::Account;
+use std::alloc::{AllocError, Global};
+use std::mem;
 
-// The estate of each member, and the estate from which it has paid so far.
-#[derive(Clone, Copy)]
+// The estate of a member, and the estate from which it has paid so far.
+#[derive(Clone, Copy, Default)]
+struct Purse {
+    estate: u32,
+    spent: u32,
+}
+
+// The purses of all members; past the last member they are empty.
+#[derive(Clone, Copy, Default)]
 struct Flow {
-    estates: Row,
-    spent: Row,
+    purses: [Purse; 32],
 }
 
 impl Flow {
     fn start(network: &Network) -> Flow {
-        Flow {
-            estates: network.endowments(),
-            spent: Row::none(),
+        let mut flow = Flow::default();
+        for (purse, member) in flow.purses.iter_mut().zip(network.members.iter()) {
+            purse.estate = member.endowment;
+        }
+        flow
+    }
+
+    fn estate(&self, member: usize) -> u32 {
+        self.purses.get(member).map_or(0, |purse| purse.estate)
+    }
+
+    // From now on a member has spent this estate. Answers what it had spent before.
+    fn spend(&mut self, member: usize, estate: u32) -> u32 {
+        match self.purses.get_mut(member) {
+            Some(purse) => mem::replace(&mut purse.spent, estate),
+            None => estate,
         }
     }
 
     // A member pays on along its queue as far as the estate goes. Answers the units moved.
     fn pay_on(&mut self, member: usize, queue: &[u8], estate: u32) -> usize {
-        let from = queue.len().min(self.spent.at(member) as usize);
-        let to = queue.len().min(estate as usize);
-        for i in from..to {
-            self.estates.add_unit(queue[i] as usize);
+        let spent = self.spend(member, estate);
+        let units = queue.get(spent as usize..).unwrap_or_default();
+        let mut moved = 0usize;
+        for creditor in units.iter().take(estate.saturating_sub(spent) as usize) {
+            if let Some(purse) = self.purses.get_mut(usize::from(*creditor)) {
+                purse.estate = purse.estate.saturating_add(1);
+            }
+            moved = moved.saturating_add(1);
         }
-        self.spent.put(member, estate);
-        to.saturating_sub(from)
+        moved
+    }
+
+    // Everyone pays on, from the estate that is told of it. Nobody is passed over.
+    fn step<F: Fn(&Flow, usize) -> u32>(&mut self, queues: &[Vec<u8>], estate: F) -> Round
+        requires { F.IsAlwaysCallable estate }
+    {
+        let mut round = Round::default();
+        for (member, queue) in queues.iter().enumerate() {
+            let estate = estate(self, member);
+            let moved = self.pay_on(member, queue.as_slice(), estate);
+            round.moved = round.moved.saturating_add(moved);
+        }
+        round
     }
 
     // Everyone pays on at once, from what it had before.
-    fn step_at_once(&mut self, queues: &[Vec<u8>]) -> usize {
-        let before = self.estates;
-        let mut moved = 0usize;
-        for member in 0..queues.len() {
-            let units = self.pay_on(member, queues[member].as_slice(), before.at(member));
-            moved = moved.saturating_add(units);
-        }
-        moved
+    fn step_at_once(&mut self, queues: &[Vec<u8>]) -> Round {
+        let before = *self;
+        self.step(queues, |_, member| before.estate(member))
     }
 
     // Everyone pays on in turn, from what it has by then.
-    fn step_in_turn(&mut self, queues: &[Vec<u8>]) -> usize {
-        let mut moved = 0usize;
-        for member in 0..queues.len() {
-            let estate = self.estates.at(member);
-            let units = self.pay_on(member, queues[member].as_slice(), estate);
-            moved = moved.saturating_add(units);
-        }
-        moved
+    fn step_in_turn(&mut self, queues: &[Vec<u8>]) -> Round {
+        self.step(queues, |now, member| now.estate(member))
     }
 }
 
-// The least clearing matrix. Every step but the last moves a unit, so there are no more of them than units of
-// claims.
-pub fn least_payments(network: &Network, queues: &[Vec<u8>]) -> Matrix {
+// The least clearing payments.
+pub fn least_payments(
+    heap: Global,
+    network: &Network,
+    queues: &[Vec<u8>],
+) -> Result<Payments, AllocError> {
     let mut flow = Flow::start(network);
-    for _step in 0..=network.units_of_claims() {
-        if flow.step_at_once(queues) == 0 {
-            break;
-        }
-    }
-    let mut payments = Matrix::none();
-    for debtor in 0..queues.len() {
-        let row = front(queues[debtor].as_slice(), flow.spent.at(debtor));
-        payments.set_row(debtor, row);
-    }
-    payments
+    let _ = Account::of_rounds(network.units_of_claims(), || flow.step_at_once(queues));
+    let rows = queues
+        .iter()
+        .zip(flow.purses.iter())
+        .map(|(queue, purse)| front(queue.as_slice(), purse.spent))
+        .collect(heap)?;
+    Ok(Payments { rows })
 }
 
-// The account of closing a book without payments. Nobody is passed over.
-pub(crate) fn account_of_rounds(network: &Network, queues: &[Vec<u8>]) -> Account {
+// The account of closing a book without payments.
+pub(crate) fn account_of_closing(network: &Network, queues: &[Vec<u8>]) -> Account {
     let mut flow = Flow::start(network);
-    let mut account = Account::blank();
-    for _round in 0..=network.units_of_claims() {
-        let moved = flow.step_in_turn(queues);
-        if moved == 0 {
-            break;
-        }
-        account.add_round(moved);
-    }
-    account
+    Account::of_rounds(network.units_of_claims(), || flow.step_in_turn(queues))
 }

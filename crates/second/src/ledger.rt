@@ -1,192 +1,148 @@
 // A book that is worked request by request.
-use crate::halt::{NOBODY, Refusal};
-use crate::matrix::Matrix;
-use crate::network::Network;
+use crate::cause::Cause;
+use crate::network::{Member, Network};
+use crate::payments::Payments;
 use crate::queue::front;
-use crate::request::Request;
+use crate::refusal::Refusal;
+use crate::request::{Answer, Request, Round};
 use crate::row::Row;
 use crate::statement::Account;
-use crate::text::Text;
+use std::alloc::{AllocError, Global};
 
 // The payments so far in a network. The queues by which it is worked may differ from request to request.
-#[derive(Clone, Copy)]
-pub struct Ledger {
-    members: usize,
-    endowments: Row,
-    pub payments: Matrix,
+#[derive(Drop)]
+pub struct Ledger<'a> {
+    network: &'a Network,
+    pub payments: Payments,
 }
 
-fn print_units(answer: Result<u32, Refusal>, text: &mut Text) {
-    match answer {
-        Ok(units) => text.say("", &[units as usize]),
-        Err(refusal) => {
-            text.push_str(" ");
-            refusal.print(text)
+impl<'a> Ledger<'a> {
+    pub fn open(heap: Global, network: &'a Network) -> Result<Ledger<'a>, AllocError> {
+        let payments = Payments::none(heap, network.members.len())?;
+        Ok(Ledger { network, payments })
+    }
+
+    fn member(&self, number: usize) -> Result<&'a Member, Cause> {
+        let members = self.network.members.as_slice();
+        members.get(number).ok_or(Cause::NoSuchMember)
+    }
+
+    fn estate(&self, member: usize) -> Result<u32, Cause> {
+        let endowment = self.member(member)?.endowment;
+        Ok(endowment.saturating_add(self.payments.total_to(member)))
+    }
+
+    fn paid_row(&self, debtor: usize) -> Result<&Row, Cause> {
+        let rows = self.payments.rows.as_slice();
+        rows.get(debtor).ok_or(Cause::NoSuchMember)
+    }
+
+    fn paid_row_mut(&mut self, debtor: usize) -> Result<&mut Row, Cause> {
+        let rows = self.payments.rows.as_mut_slice();
+        rows.get_mut(debtor).ok_or(Cause::NoSuchMember)
+    }
+
+    fn due_row(&self, queues: &[Vec<u8>], debtor: usize) -> Result<Row, Cause> {
+        let queue = queues.get(debtor).ok_or(Cause::NoSuchMember)?;
+        Ok(front(queue.as_slice(), self.estate(debtor)?))
+    }
+
+    // What is due from a debtor that has not receded, and the units that it has not paid of it yet.
+    fn open_row(&self, queues: &[Vec<u8>], debtor: usize) -> Result<(Row, u32), Cause> {
+        let due = self.due_row(queues, debtor)?;
+        let paid = self.paid_row(debtor)?;
+        if paid.exceeds(&due) {
+            return Err(Cause::Receded);
         }
-    }
-}
-
-fn print_next(answer: Option<usize>, text: &mut Text) {
-    match answer {
-        Some(member) => text.say("", &[member]),
-        None => text.push_str(" none"),
-    }
-}
-
-impl Ledger {
-    pub fn open(network: &Network) -> Ledger {
-        Ledger {
-            members: network.count,
-            endowments: network.endowments(),
-            payments: Matrix::none(),
-        }
-    }
-
-    fn estate(&self, member: usize) -> u32 {
-        self.endowments
-            .at(member)
-            .saturating_add(self.payments.total_to(member))
-    }
-
-    fn due_row(&self, queues: &[Vec<u8>], member: usize) -> Row {
-        if member < queues.len() {
-            front(queues[member].as_slice(), self.estate(member))
-        } else {
-            Row::none()
-        }
-    }
-
-    fn has_receded(&self, member: usize, due: Row) -> bool {
-        for creditor in 0..self.members {
-            if self.payments.at(member, creditor) > due.at(creditor) {
-                return true;
-            }
-        }
-        false
-    }
-
-    fn knows(&self, member: u8) -> bool {
-        (member as usize) < self.members
+        Ok((due, due.total().saturating_sub(paid.total())))
     }
 
     fn pay(
         &mut self,
         queues: &[Vec<u8>],
-        debtor: u8,
-        creditor: u8,
+        debtor: usize,
+        creditor: usize,
         units: u32,
-    ) -> Result<u32, Refusal> {
-        if !self.knows(debtor) || !self.knows(creditor) {
-            return Err(Refusal::Book(2, debtor, creditor));
-        }
+    ) -> Result<u32, Cause> {
+        self.member(debtor)?;
+        self.member(creditor)?;
         if units == 0 {
-            return Err(Refusal::Book(7, debtor, creditor));
+            return Err(Cause::NoUnits);
         }
-        let due = self.due_row(queues, debtor as usize);
-        if self.has_receded(debtor as usize, due) {
-            return Err(Refusal::Book(8, debtor, creditor));
+        let (due, _) = self.open_row(queues, debtor)?;
+        let row = self.paid_row_mut(debtor)?;
+        let paid = row.at(creditor);
+        if units > due.at(creditor).saturating_sub(paid) {
+            return Err(Cause::AboveDue);
         }
-        let paid = self.payments.at(debtor as usize, creditor as usize);
-        if units > due.at(creditor as usize).saturating_sub(paid) {
-            return Err(Refusal::Book(9, debtor, creditor));
-        }
-        let figure = paid.saturating_add(units);
-        self.payments
-            .set(debtor as usize, creditor as usize, figure);
-        Ok(figure)
+        row.put(creditor, paid.saturating_add(units));
+        Ok(row.at(creditor))
     }
 
-    fn settle(&mut self, queues: &[Vec<u8>], member: u8) -> Result<u32, Refusal> {
-        if !self.knows(member) {
-            return Err(Refusal::Book(2, member, NOBODY));
-        }
-        let due = self.due_row(queues, member as usize);
-        if self.has_receded(member as usize, due) {
-            return Err(Refusal::Book(8, member, NOBODY));
-        }
-        let before = self.payments.row(member as usize).total();
-        self.payments.set_row(member as usize, due);
-        Ok(due.total().saturating_sub(before))
+    fn settle(&mut self, queues: &[Vec<u8>], member: usize) -> Result<u32, Cause> {
+        let (due, units) = self.open_row(queues, member)?;
+        *self.paid_row_mut(member)? = due;
+        Ok(units)
     }
 
-    // Units moved and members passed over.
-    fn round(&mut self, queues: &[Vec<u8>]) -> (usize, usize) {
-        let mut moved = 0usize;
-        let mut passed_over = 0usize;
-        for member in 0..self.members.min(32) {
-            match self.settle(queues, member as u8) {
-                Ok(units) => moved = moved.saturating_add(units as usize),
-                Err(_) => passed_over = passed_over.saturating_add(1),
+    fn round(&mut self, queues: &[Vec<u8>]) -> Round {
+        let mut round = Round::default();
+        for member in 0..self.network.members.len() {
+            match self.settle(queues, member) {
+                Ok(units) => round.moved = round.moved.saturating_add(units as usize),
+                Err(_) => round.passed_over = round.passed_over.saturating_add(1),
             }
         }
-        (moved, passed_over)
+        round
     }
 
-    fn paid(&self, debtor: u8, creditor: u8) -> Result<u32, Refusal> {
-        if !self.knows(debtor) || !self.knows(creditor) {
-            return Err(Refusal::Book(2, debtor, creditor));
-        }
-        Ok(self.payments.at(debtor as usize, creditor as usize))
+    fn paid(&self, debtor: usize, creditor: usize) -> Result<u32, Cause> {
+        self.member(creditor)?;
+        Ok(self.paid_row(debtor)?.at(creditor))
     }
 
-    fn cash(&self, member: u8) -> Result<u32, Refusal> {
-        if !self.knows(member) {
-            return Err(Refusal::Book(2, member, NOBODY));
-        }
-        let paid = self.payments.row(member as usize).total();
-        Ok(self.estate(member as usize).saturating_sub(paid))
+    fn cash(&self, member: usize) -> Result<u32, Cause> {
+        let paid = self.paid_row(member)?.total();
+        Ok(self.estate(member)?.saturating_sub(paid))
     }
 
-    fn due(&self, queues: &[Vec<u8>], debtor: u8, creditor: u8) -> Result<u32, Refusal> {
-        if !self.knows(debtor) || !self.knows(creditor) {
-            return Err(Refusal::Book(2, debtor, creditor));
-        }
-        Ok(self.due_row(queues, debtor as usize).at(creditor as usize))
+    fn due(&self, queues: &[Vec<u8>], debtor: usize, creditor: usize) -> Result<u32, Cause> {
+        self.member(creditor)?;
+        Ok(self.due_row(queues, debtor)?.at(creditor))
     }
 
     // The first member whose settle would be accepted and move a unit.
     fn next(&self, queues: &[Vec<u8>]) -> Option<usize> {
-        for member in 0..self.members {
-            let due = self.due_row(queues, member);
-            let paid = self.payments.row(member).total();
-            if !self.has_receded(member, due) && due.total() > paid {
-                return Some(member);
-            }
-        }
-        None
+        (0..self.network.members.len()).find(|member| {
+            self.open_row(queues, *member)
+                .is_ok_and(|(_, units)| units > 0)
+        })
     }
 
-    // Does what is requested; the text gets the request, and behind it what came of it.
-    pub fn perform(&mut self, queues: &[Vec<u8>], request: Request, text: &mut Text) {
-        request.print(text);
-        text.push_str(":");
-        match request {
+    // Does what is requested.
+    pub fn perform(&mut self, queues: &[Vec<u8>], request: Request) -> Answer {
+        let units = match request {
+            Request::Round => return Answer::Round(self.round(queues)),
+            Request::Next => return Answer::Next(self.next(queues)),
             Request::Pay(debtor, creditor, units) => {
-                print_units(self.pay(queues, debtor, creditor, units), text)
+                self.pay(queues, usize::from(debtor), usize::from(creditor), units)
             }
-            Request::Settle(member) => print_units(self.settle(queues, member), text),
-            Request::Round => {
-                let (moved, passed_over) = self.round(queues);
-                text.say("", &[moved, passed_over])
+            Request::Settle(member) => self.settle(queues, usize::from(member)),
+            Request::Paid(debtor, creditor) => self.paid(
+                usize::from(debtor),
+                usize::from(creditor),
+            ),
+            Request::Cash(member) => self.cash(usize::from(member)),
+            Request::Due(debtor, creditor) => {
+                self.due(queues, usize::from(debtor), usize::from(creditor))
             }
-            Request::Paid(debtor, creditor) => print_units(self.paid(debtor, creditor), text),
-            Request::Cash(member) => print_units(self.cash(member), text),
-            Request::Due(debtor, creditor) => print_units(self.due(queues, debtor, creditor), text),
-            Request::Next => print_next(self.next(queues), text),
-        }
+        };
+        let named = request.named();
+        Answer::Units(units.map_err(|cause| Refusal::Book { cause, named }))
     }
 
-    // Does rounds until one moves nothing. No more of them move than there are units of claims.
-    pub fn close(&mut self, queues: &[Vec<u8>], units_of_claims: u32) -> Account {
-        let mut account = Account::blank();
-        for _round in 0..=units_of_claims {
-            let (moved, passed_over) = self.round(queues);
-            account.passed_over = passed_over;
-            if moved == 0 {
-                break;
-            }
-            account.add_round(moved);
-        }
-        account
+    // Does rounds until one moves nothing.
+    pub fn close(&mut self, queues: &[Vec<u8>]) -> Account {
+        Account::of_rounds(self.network.units_of_claims(), || self.round(queues))
     }
 }

@@ -7,27 +7,30 @@
 // everyone paying on at once; and a file is read byte by byte.
 #![tactic(auto)]
 
+mod cause;
 mod clearance;
 mod flow;
 mod halt;
 mod ledger;
-mod matrix;
 mod network;
+mod payments;
 mod queue;
 mod reading;
+mod refusal;
 mod request;
 mod row;
 mod statement;
-mod text;
 
-pub use clearance::{Printed, clear};
+pub use cause::Cause;
+pub use clearance::clear;
 pub use flow::least_payments;
-pub use halt::{Halt, Refusal};
+pub use halt::Halt;
 pub use ledger::Ledger;
-pub use matrix::Matrix;
 pub use network::{Member, Network};
+pub use payments::Payments;
 pub use queue::{Rule, Rules, awards};
 pub use reading::read;
-pub use request::Request;
-pub use statement::{Account, print_sheet, sheet_text};
-pub use text::Text;
+pub use refusal::{Named, Refusal};
+pub use request::{Answer, Request, Round};
+pub use row::Row;
+pub use statement::{Account, Sheet};

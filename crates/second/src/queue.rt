@@ -1,6 +1,8 @@
 // The rules as queues: the order in which a debtor pays the units of the claims on it.
-use crate::halt::{Halt, NOBODY, Refusal};
+use crate::cause::Cause;
+use crate::halt::Halt;
 use crate::network::Network;
+use crate::refusal::{Named, Refusal};
 use crate::row::Row;
 use std::alloc::{AllocError, Global};
 
@@ -36,14 +38,16 @@ impl Rules {
 
     // The queue of each member of a network.
     pub fn queues(self, heap: Global, network: &Network) -> Result<Vec<Vec<u8>>, AllocError> {
-        let classes = network.classes();
-        let mut queues = Vec::new(heap);
-        for debtor in 0..network.count {
-            let rule = self.of_house(network.member(debtor).house);
-            let claims = network.claims.row(debtor);
-            queues.push(queue_of(heap, rule, &classes, claims.as_slice())?)?;
-        }
-        Ok(queues)
+        let classes = network.classes(heap)?;
+        let classes = classes.as_slice();
+        network
+            .members
+            .iter()
+            .map(|member| {
+                let rule = self.of_house(member.house);
+                queue_of(heap, rule, classes, member.claims.as_slice())
+            })
+            .try_collect(heap)
     }
 }
 
@@ -56,14 +60,25 @@ fn rank(held: u32, weight: u32) -> u64 {
 
 // A creditor's unit with its place in the queue in front: a lower class goes before a higher one, then the
 // lower rank, then the lower creditor.
-type Unit = (u8, u64, u8);
+#[derive(Clone, Copy, PartialEq, Eq, PartialOrd, Ord)]
+struct Unit {
+    class: u8,
+    rank: u64,
+    creditor: u8,
+}
 
+// The place of one more unit of a creditor's claim.
 fn unit_of(rule: Rule, class: u8, creditor: u8, claim: u32, held: u32) -> Unit {
-    match rule {
-        Rule::Priority => (0, 0, creditor),
-        Rule::EqualAwards | Rule::DualOfEqualAwards => (0, rank(held, 1), creditor),
-        Rule::Jefferson => (0, rank(held, claim), creditor),
-        Rule::ClassesOverJefferson => (class, rank(held, claim), creditor),
+    let (class, rank) = match rule {
+        Rule::Priority => (0, 0),
+        Rule::EqualAwards | Rule::DualOfEqualAwards => (0, rank(held, 1)),
+        Rule::Jefferson => (0, rank(held, claim)),
+        Rule::ClassesOverJefferson => (class, rank(held, claim)),
+    };
+    Unit {
+        class,
+        rank,
+        creditor,
     }
 }
 
@@ -75,44 +90,43 @@ fn queue_of(
     classes: &[u8],
     claims: &[u32],
 ) -> Result<Vec<u8>, AllocError> {
-    let mut units: Vec<Unit> = Vec::new(heap);
-    for creditor in 0..claims.len().min(classes.len()).min(32) {
-        let (class, claim) = (classes[creditor], claims[creditor]);
-        for held in 0..claim {
-            units.push(unit_of(rule, class, creditor as u8, claim, held))?;
+    let mut units = Vec::new(heap);
+    for ((creditor, class), claim) in (0..32u8).zip(classes).zip(claims) {
+        for held in 0..*claim {
+            units.push(unit_of(rule, *class, creditor, *claim, held))?;
         }
     }
     units.sort_unstable();
     if let Rule::DualOfEqualAwards = rule {
         units.reverse();
     }
-    let mut queue = Vec::new(heap);
-    for unit in units.iter() {
-        queue.push(unit.2)?;
-    }
-    Ok(queue)
+    units.iter().map(|unit| unit.creditor).collect(heap)
 }
 
 // What each member gets of the first units of a queue.
 pub(crate) fn front(queue: &[u8], units: u32) -> Row {
-    let mut row = Row::none();
-    for i in 0..queue.len().min(units as usize) {
-        row.add_unit(queue[i] as usize);
+    let mut row = Row::default();
+    for creditor in queue.iter().take(units as usize) {
+        row.add_unit(usize::from(*creditor));
     }
     row
 }
 
-// What is wrong with a list of claims, or with the room for awards on it.
-fn refusal_of(claims: &[u32], room: usize) -> Option<Refusal> {
+// Refuses a list of claims, or the room for awards on it.
+fn admit(claims: &[u32], room: usize) -> Result<(), Refusal> {
     if claims.len() > 32 || room != claims.len() {
-        return Some(Refusal::Rule(10, NOBODY));
+        return Err(Refusal::Rule {
+            cause: Cause::ListLength,
+            named: Named::Nobody,
+        });
     }
-    for creditor in 0..claims.len() {
-        if claims[creditor] > 10_000 {
-            return Some(Refusal::Rule(11, creditor as u8));
-        }
+    match (0..32u8).zip(claims).find(|(_, claim)| **claim > 10_000) {
+        Some((creditor, _)) => Err(Refusal::Rule {
+            cause: Cause::ListedClaimTooLarge,
+            named: Named::Creditor(creditor),
+        }),
+        None => Ok(()),
     }
-    None
 }
 
 // Puts what a rule awards of an estate over a list of claims into a buffer; what is refused leaves it.
@@ -124,13 +138,11 @@ pub fn awards(
     claims: &[u32],
     buffer: &mut [u32],
 ) -> Result<(), Halt> {
-    if let Some(refusal) = refusal_of(claims, buffer.len()) {
-        return Err(Halt::Refused(refusal));
-    }
+    admit(claims, buffer.len())?;
     let queue = queue_of(heap, rule, classes, claims)?;
     let row = front(queue.as_slice(), estate);
-    for creditor in 0..buffer.len() {
-        buffer[creditor] = row.at(creditor);
+    for (award, units) in buffer.iter_mut().zip(row.as_slice()) {
+        *award = *units;
     }
     Ok(())
 }

@@ -1,181 +1,208 @@
 // Reading a network file byte by byte.
-use crate::halt::{NOBODY, Refusal};
+use crate::cause::Cause;
+use crate::halt::Halt;
 use crate::network::{Member, Network};
+use crate::refusal::{Named, Refusal};
+use crate::row::Row;
+use std::alloc::Global;
+
+#[derive(Clone, Copy)]
+enum Kind {
+    Network,
+    Member,
+    Claim,
+    End,
+}
+
+impl TryFrom<u8> for Kind {
+    type Error = Cause;
+
+    fn try_from(kind: u8) -> Result<Kind, Cause> {
+        match kind {
+            1 => Ok(Kind::Network),
+            2 => Ok(Kind::Member),
+            3 => Ok(Kind::Claim),
+            4 => Ok(Kind::End),
+            _ => Err(Cause::UnknownKind),
+        }
+    }
+}
 
 // What is due next.
 #[derive(Clone, Copy)]
 enum Due {
     Network,
-    Member,
+    // so many members
+    Members(u8),
     ClaimOrEnd,
     Nothing,
 }
 
 impl Due {
-    // The length of the body of a record of this kind, or the fault's number where none is due.
-    fn length_of(self, kind: u8) -> Result<usize, u8> {
+    // The kind of a record that begins here.
+    fn kind_of(self, byte: u8) -> Result<Kind, Cause> {
+        if let Due::Nothing = self {
+            return Err(Cause::NotDue);
+        }
+        let kind = Kind::try_from(byte)?;
         match (self, kind) {
-            (Due::Nothing, _) => Err(14),
-            (Due::Network, 1) => Ok(1),
-            (Due::Member, 2) => Ok(7),
-            (Due::ClaimOrEnd, 3) => Ok(6),
-            (Due::ClaimOrEnd, 4) => Ok(0),
-            (_, 1..=4) => Err(14),
-            _ => Err(13),
+            (Due::Network, Kind::Network)
+            | (Due::Members(_), Kind::Member)
+            | (Due::ClaimOrEnd, Kind::Claim | Kind::End) => Ok(kind),
+            _ => Err(Cause::NotDue),
         }
     }
 }
 
-// The network as far as it is read, the first place in the order of claims that is still free, and the record
-// that is being read: its kind, its first byte, its body so far as one number whose highest byte comes first,
-// and how many bytes of it are missing.
+// The record that is being read: its kind and its first byte.
 #[derive(Clone, Copy)]
+struct Record {
+    kind: Kind,
+    byte: usize,
+}
+
+impl Record {
+    fn in_file(self, cause: Cause) -> Halt {
+        let byte = self.byte;
+        Halt::Refused(Refusal::File { cause, byte })
+    }
+
+    fn in_draft(self, cause: Cause, named: Named) -> Halt {
+        let byte = self.byte;
+        Halt::Refused(Refusal::Draft { cause, byte, named })
+    }
+}
+
+// The network as far as it is read, the claim that was read last, and the record that is being read, with its body so
+// far.
+#[derive(Drop)]
 struct Reader {
     network: Network,
-    count: u8,
     due: Due,
-    free: u16,
-    kind: u8,
-    start: usize,
-    body: u64,
-    missing: usize,
+    last: Option<(u8, u8)>,
+    record: Option<Record>,
+    body: Vec<u8>,
 }
 
 impl Reader {
-    fn start() -> Reader {
+    fn start(heap: Global) -> Reader {
         Reader {
-            network: Network::blank(),
-            count: 0,
+            network: Network::new(heap),
             due: Due::Network,
-            free: 0,
-            kind: 0,
-            start: 0,
-            body: 0,
-            missing: 0,
-        }
-    }
-
-    fn file_fault(&self, number: u8) -> Refusal {
-        Refusal::File(number, self.start)
-    }
-
-    fn draft_fault(&self, number: u8, debtor: u8, creditor: u8) -> Refusal {
-        Refusal::Draft(number, self.start, debtor, creditor)
-    }
-
-    fn take(&mut self, at: usize, byte: u8) -> Result<(), Refusal> {
-        if self.missing == 0 {
-            self.begin(at, byte)?;
-        } else {
-            self.body = self.body << 8 | u64::from(byte);
-            self.missing = self.missing.saturating_sub(1);
-        }
-        if self.missing == 0 {
-            self.end_record()
-        } else {
-            Ok(())
+            last: None,
+            record: None,
+            body: Vec::new(heap),
         }
     }
 
     // A record begins with its kind.
-    fn begin(&mut self, at: usize, kind: u8) -> Result<(), Refusal> {
-        self.start = at;
-        self.kind = kind;
-        self.body = 0;
-        match self.due.length_of(kind) {
-            Ok(length) => {
-                self.missing = length;
-                Ok(())
+    fn take(&mut self, byte: usize, value: u8) -> Result<(), Halt> {
+        let record = match self.record {
+            Some(record) => {
+                self.body.push(value)?;
+                record
             }
-            Err(number) => Err(self.file_fault(number)),
-        }
-    }
-
-    fn end_record(&mut self) -> Result<(), Refusal> {
-        match self.kind {
-            1 => self.end_network(),
-            2 => self.end_member(),
-            3 => self.end_claim(),
-            _ => {
-                self.due = Due::Nothing;
-                Ok(())
+            None => {
+                let kind = self.due.kind_of(value);
+                let kind = kind.map_err(|cause| Refusal::File { cause, byte })?;
+                self.body.clear();
+                Record { kind, byte }
             }
-        }
-    }
-
-    fn end_network(&mut self) -> Result<(), Refusal> {
-        let count = (self.body & 0xff) as u8;
-        if count == 0 || count > 32 {
-            return Err(self.draft_fault(1, NOBODY, NOBODY));
-        }
-        self.count = count;
-        self.due = Due::Member;
+        };
+        let is_whole = self.end(record)?;
+        self.record = if is_whole { None } else { Some(record) };
         Ok(())
     }
 
-    // The number at the end of the body.
-    fn number(&self) -> u32 {
-        (self.body & 0xffff_ffff) as u32
+    // Takes what a record says once its body is whole. Answers whether it is.
+    fn end(&mut self, record: Record) -> Result<bool, Halt> {
+        match (record.kind, self.body.as_slice()) {
+            (Kind::Network, &[count]) => self.end_network(record, count)?,
+            (Kind::Member, &[given, house, class, a, b, c, d]) => {
+                let member = Member {
+                    house,
+                    class,
+                    endowment: u32::from_be_bytes([a, b, c, d]),
+                    claims: Row::default(),
+                };
+                self.end_member(record, given, member)?
+            }
+            (Kind::Claim, &[debtor, creditor, a, b, c, d]) => {
+                let units = u32::from_be_bytes([a, b, c, d]);
+                self.end_claim(record, debtor, creditor, units)?
+            }
+            (Kind::End, []) => self.due = Due::Nothing,
+            _ => return Ok(false),
+        }
+        Ok(true)
     }
 
-    fn end_member(&mut self) -> Result<(), Refusal> {
-        let [_, given, house, class, _, _, _, _] = self.body.to_be_bytes();
-        let endowment = self.number();
-        if usize::from(given) != self.network.count {
-            return Err(self.file_fault(14));
+    fn end_network(&mut self, record: Record, count: u8) -> Result<(), Halt> {
+        if !(1..=32u8).contains(&count) {
+            return Err(record.in_draft(Cause::MemberCount, Named::Nobody));
         }
-        if class > 7 {
-            return Err(self.draft_fault(3, given, NOBODY));
-        }
-        if endowment > 1_000_000 {
-            return Err(self.draft_fault(4, given, NOBODY));
-        }
-        self.network.add_member(Member {
-            house,
-            class,
-            endowment,
-        });
-        if self.network.count == usize::from(self.count) {
-            self.due = Due::ClaimOrEnd;
-        }
+        self.due = Due::Members(count);
         Ok(())
     }
 
-    fn end_claim(&mut self) -> Result<(), Refusal> {
-        let [_, _, debtor, creditor, _, _, _, _] = self.body.to_be_bytes();
-        let units = self.number();
-        if debtor.max(creditor) >= self.count {
-            return Err(self.draft_fault(2, debtor, creditor));
+    fn end_member(&mut self, record: Record, given: u8, member: Member) -> Result<(), Halt> {
+        if usize::from(given) != self.network.members.len() {
+            return Err(record.in_file(Cause::NotDue));
+        }
+        if member.class > 7 {
+            return Err(record.in_draft(Cause::ClassTooHigh, Named::Debtor(given)));
+        }
+        if member.endowment > 1_000_000 {
+            return Err(record.in_draft(Cause::EndowmentTooLarge, Named::Debtor(given)));
+        }
+        self.network.members.push(member)?;
+        self.due = match self.due {
+            Due::Members(left) if left > 1 => Due::Members(left - 1),
+            _ => Due::ClaimOrEnd,
+        };
+        Ok(())
+    }
+
+    fn end_claim(
+        &mut self,
+        record: Record,
+        debtor: u8,
+        creditor: u8,
+        units: u32,
+    ) -> Result<(), Halt> {
+        let named = Named::Pair(debtor, creditor);
+        if usize::from(debtor.max(creditor)) >= self.network.members.len() {
+            return Err(record.in_draft(Cause::NoSuchMember, named));
         }
         if debtor == creditor {
-            return Err(self.draft_fault(5, debtor, creditor));
+            return Err(record.in_draft(Cause::ClaimOnItself, named));
         }
         if units > 10_000 {
-            return Err(self.draft_fault(6, debtor, creditor));
+            return Err(record.in_draft(Cause::ClaimTooLarge, named));
         }
-        let place = u16::from(debtor) << 8 | u16::from(creditor);
-        if units == 0 || place < self.free {
-            return Err(self.file_fault(15));
+        if units == 0 || self.last >= Some((debtor, creditor)) {
+            return Err(record.in_file(Cause::ClaimOrder));
         }
-        self.free = place.saturating_add(1);
-        self.network
+        self.last = Some((debtor, creditor));
+        self.network.members[usize::from(debtor)]
             .claims
-            .set(debtor as usize, creditor as usize, units);
+            .put(usize::from(creditor), units);
         Ok(())
     }
 }
 
 // The network whose file this is.
-pub fn read(file: &[u8]) -> Result<Network, Refusal> {
-    let mut reader = Reader::start();
-    for (at, byte) in file.iter().enumerate() {
-        reader.take(at, *byte)?;
+pub fn read(heap: Global, file: &[u8]) -> Result<Network, Halt> {
+    let mut reader = Reader::start(heap);
+    for (byte, value) in file.iter().enumerate() {
+        reader.take(byte, *value)?;
     }
-    if reader.missing > 0 {
-        return Err(reader.file_fault(12));
-    }
-    match reader.due {
-        Due::Nothing => Ok(reader.network),
-        _ => Err(Refusal::File(12, file.len())),
+    match (reader.record, reader.due) {
+        (None, Due::Nothing) => Ok(reader.network),
+        (None, _) => Err(Halt::Refused(Refusal::File {
+            cause: Cause::EndOfFile,
+            byte: file.len(),
+        })),
+        (Some(record), _) => Err(record.in_file(Cause::EndOfFile)),
     }
 }

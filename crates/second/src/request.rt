@@ -1,5 +1,6 @@
-// What is requested of a ledger.
-use crate::text::Text;
+// What is requested of a ledger, and what came of it.
+use crate::refusal::{Named, Refusal};
+use std::fmt;
 
 #[derive(Clone, Copy)]
 pub enum Request {
@@ -18,22 +19,55 @@ pub enum Request {
 }
 
 impl Request {
-    pub(crate) fn print(self, text: &mut Text) {
+    // The members that a request names.
+    pub(crate) fn named(self) -> Named {
         match self {
-            Request::Pay(debtor, creditor, units) => text.say(
-                "pay",
-                &[debtor as usize, creditor as usize, units as usize],
-            ),
-            Request::Settle(member) => text.say("settle", &[member as usize]),
-            Request::Round => text.push_str("round"),
-            Request::Paid(debtor, creditor) => {
-                text.say("paid", &[debtor as usize, creditor as usize])
-            }
-            Request::Cash(member) => text.say("cash", &[member as usize]),
-            Request::Due(debtor, creditor) => {
-                text.say("due", &[debtor as usize, creditor as usize])
-            }
-            Request::Next => text.push_str("next"),
+            Request::Pay(debtor, creditor, _)
+            | Request::Paid(debtor, creditor)
+            | Request::Due(debtor, creditor) => Named::Pair(debtor, creditor),
+            Request::Settle(member) | Request::Cash(member) => Named::Debtor(member),
+            Request::Round | Request::Next => Named::Nobody,
+        }
+    }
+}
+
+impl fmt::Display for Request {
+    fn fmt<W: fmt::Write>(&self, f: &mut fmt::Formatter<W>) -> fmt::Result {
+        match self {
+            Request::Pay(debtor, creditor, units) => write!(f, "pay {debtor} {creditor} {units}"),
+            Request::Settle(member) => write!(f, "settle {member}"),
+            Request::Round => write!(f, "round"),
+            Request::Paid(debtor, creditor) => write!(f, "paid {debtor} {creditor}"),
+            Request::Cash(member) => write!(f, "cash {member}"),
+            Request::Due(debtor, creditor) => write!(f, "due {debtor} {creditor}"),
+            Request::Next => write!(f, "next"),
+        }
+    }
+}
+
+// The units that a round moved, and how many members it passed over.
+#[derive(Clone, Copy, Default)]
+pub struct Round {
+    pub moved: usize,
+    pub passed_over: usize,
+}
+
+#[derive(Clone, Copy)]
+pub enum Answer {
+    Units(Result<u32, Refusal>),
+    Round(Round),
+    // the next member, if any
+    Next(Option<usize>),
+}
+
+impl fmt::Display for Answer {
+    fn fmt<W: fmt::Write>(&self, f: &mut fmt::Formatter<W>) -> fmt::Result {
+        match self {
+            Answer::Units(Ok(units)) => write!(f, "{units}"),
+            Answer::Units(Err(refusal)) => write!(f, "{refusal}"),
+            Answer::Round(Round { moved, passed_over }) => write!(f, "{moved} {passed_over}"),
+            Answer::Next(Some(member)) => write!(f, "{member}"),
+            Answer::Next(None) => write!(f, "none"),
         }
     }
 }

@@ -1,27 +1,24 @@
-// A row of units, one entry for each member.
+// Rows of units, one entry for each member.
 
-#[derive(Clone, Copy)]
+// Beyond the last member a row is 0, and what is put there is lost. A row is a plain value of a fixed width, so that
+// nothing that is done with it can run out of memory.
+#[derive(Clone, Copy, Default)]
 pub struct Row {
     units: [u32; 32],
 }
 
-// Beyond the last member a row is 0, and what is put there is lost.
 impl Row {
-    pub(crate) fn none() -> Row {
-        Row { units: [0; 32] }
-    }
-
-    pub(crate) fn as_slice(&self) -> &[u32] {
+    pub fn as_slice(&self) -> &[u32] {
         &self.units
     }
 
     pub(crate) fn at(&self, member: usize) -> u32 {
-        if member < 32 { self.units[member] } else { 0 }
+        self.units.get(member).copied().unwrap_or(0)
     }
 
     pub(crate) fn put(&mut self, member: usize, units: u32) {
-        if member < 32 {
-            self.units[member] = units;
+        if let Some(entry) = self.units.get_mut(member) {
+            *entry = units;
         }
     }
 
@@ -30,10 +27,14 @@ impl Row {
     }
 
     pub(crate) fn total(&self) -> u32 {
-        let mut total = 0u32;
-        for units in self.as_slice() {
-            total = total.saturating_add(*units);
-        }
-        total
+        self.units.iter().copied().fold(0, u32::saturating_add)
+    }
+
+    // Whether some entry is above the other row's.
+    pub(crate) fn exceeds(&self, other: &Row) -> bool {
+        self.units
+            .iter()
+            .zip(other.units.iter())
+            .any(|(units, others)| units > others)
     }
 }

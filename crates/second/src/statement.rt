@@ -1,71 +1,106 @@
 // The sheet as it is printed.
-use crate::matrix::Matrix;
 use crate::network::Network;
-use crate::text::Text;
-use std::alloc::{AllocError, Global};
+use crate::payments::Payments;
+use crate::request::Round;
+use std::fmt;
 
 // What closing took: rounds that moved units, units moved, and members passed over in the last round.
-#[derive(Clone, Copy)]
+#[derive(Clone, Copy, Default)]
 pub struct Account {
-    pub rounds: usize,
-    pub units: usize,
-    pub passed_over: usize,
+    rounds: usize,
+    units: usize,
+    passed_over: usize,
 }
 
 impl Account {
-    pub(crate) fn blank() -> Account {
-        Account {
-            rounds: 0,
-            units: 0,
-            passed_over: 0,
+    // The account of rounds up to the first that moves nothing. No more of them move than there are units of claims.
+    pub(crate) fn of_rounds<F: FnMut() -> Round>(units_of_claims: u32, mut play: F) -> Account
+        requires { F.IsAlwaysCallable play }
+    {
+        let mut account = Account::default();
+        for _round in 0..=units_of_claims {
+            let round = play();
+            account.passed_over = round.passed_over;
+            if round.moved == 0 {
+                break;
+            }
+            account.rounds = account.rounds.saturating_add(1);
+            account.units = account.units.saturating_add(round.moved);
         }
-    }
-
-    pub(crate) fn add_round(&mut self, moved: usize) {
-        self.rounds = self.rounds.saturating_add(1);
-        self.units = self.units.saturating_add(moved);
+        account
     }
 }
 
-fn print_payments(text: &mut Text, network: &Network, payments: &Matrix) {
-    for debtor in 0..network.count {
-        for creditor in 0..network.count {
-            if network.claims.at(debtor, creditor) > 0 {
-                let units = payments.at(debtor, creditor) as usize;
-                text.say_line("paid", &[debtor, creditor, units]);
+impl fmt::Display for Account {
+    fn fmt<W: fmt::Write>(&self, f: &mut fmt::Formatter<W>) -> fmt::Result {
+        let Account {
+            rounds,
+            units,
+            passed_over,
+        } = self;
+        write!(f, "rounds {rounds} {units} {passed_over}")
+    }
+}
+
+// The sheet of a network with these payments.
+#[derive(Clone, Copy)]
+pub struct Sheet<'a> {
+    network: &'a Network,
+    payments: &'a Payments,
+    account: Account,
+}
+
+impl<'a> Sheet<'a> {
+    pub fn new(network: &'a Network, payments: &'a Payments, account: Account) -> Sheet<'a> {
+        Sheet {
+            network,
+            payments,
+            account,
+        }
+    }
+
+    // Each claim above 0 has a line.
+    fn write_payments<W: fmt::Write>(&self, f: &mut fmt::Formatter<W>) -> fmt::Result {
+        let rows = self.network.members.iter().zip(self.payments.rows.iter());
+        for (debtor, (member, row)) in rows.enumerate() {
+            let entries = member.claims.as_slice().iter().zip(row.as_slice());
+            for (creditor, (claim, paid)) in entries.enumerate() {
+                if *claim > 0 {
+                    writeln!(f, "paid {debtor} {creditor} {paid}")?;
+                }
             }
         }
+        Ok(())
     }
-}
 
-// The lines of a sheet with these payments.
-pub fn print_sheet(text: &mut Text, network: &Network, payments: &Matrix, account: Account) {
-    print_payments(text, network, payments);
-    for member in 0..network.count {
-        let endowment = network.member(member).endowment;
-        let estate = endowment.saturating_add(payments.total_to(member));
-        let equity = estate.saturating_sub(payments.row(member).total());
-        text.say_line("equity", &[member, equity as usize]);
-    }
-    for member in 0..network.count {
-        if payments.row(member).total() < network.claims.row(member).total() {
-            text.say_line("default", &[member]);
+    fn write_equities<W: fmt::Write>(&self, f: &mut fmt::Formatter<W>) -> fmt::Result {
+        let rows = self.network.members.iter().zip(self.payments.rows.iter());
+        for (number, (member, row)) in rows.enumerate() {
+            let received = self.payments.total_to(number);
+            let estate = member.endowment.saturating_add(received);
+            let equity = estate.saturating_sub(row.total());
+            writeln!(f, "equity {number} {equity}")?;
         }
+        Ok(())
     }
-    text.say_line(
-        "rounds",
-        &[account.rounds, account.units, account.passed_over],
-    );
+
+    fn write_defaults<W: fmt::Write>(&self, f: &mut fmt::Formatter<W>) -> fmt::Result {
+        let rows = self.network.members.iter().zip(self.payments.rows.iter());
+        for (number, (member, row)) in rows.enumerate() {
+            if row.total() < member.claims.total() {
+                writeln!(f, "default {number}")?;
+            }
+        }
+        Ok(())
+    }
 }
 
-// The same as a text of its own.
-pub fn sheet_text(
-    heap: Global,
-    network: &Network,
-    payments: &Matrix,
-    account: Account,
-) -> Result<String, AllocError> {
-    let mut text = Text::new(heap);
-    print_sheet(&mut text, network, payments, account);
-    text.finish()
+impl fmt::Display for Sheet<'_> {
+    fn fmt<W: fmt::Write>(&self, f: &mut fmt::Formatter<W>) -> fmt::Result {
+        self.write_payments(f)?;
+        self.write_equities(f)?;
+        self.write_defaults(f)?;
+        let account = self.account;
+        writeln!(f, "{account}")
+    }
 }

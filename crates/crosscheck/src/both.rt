@@ -1,0 +1,59 @@
+// A network as both sides have it, and its life as the second implementation has it.
+use crate::engine::draft_of;
+use crate::tally::Tally;
+use network::Draft;
+use second::{Halt, Ledger, Network, Payments, Request, Sheet, read};
+use std::alloc::{AllocError, Global};
+
+// The network of a file; a file that is none to both sides counts as a difference.
+pub fn read_both(tally: &mut Tally, file: &[u8]) -> Result<Option<(Network, Draft)>, AllocError> {
+    match (read(tally.heap, file), draft_of(file)) {
+        (Ok(network), Some(draft)) => Ok(Some((network, draft))),
+        (Err(Halt::NoMemory(error)), _) => Err(error),
+        _ => {
+            tally.compare(file, "not a network to both sides", "")?;
+            Ok(None)
+        }
+    }
+}
+
+// A ledger that is worked, and each request so far with its answer.
+#[derive(Drop)]
+pub struct Life<'a> {
+    network: &'a Network,
+    ledger: Ledger<'a>,
+    text: String,
+}
+
+impl<'a> Life<'a> {
+    pub fn open(heap: Global, network: &'a Network) -> Result<Life<'a>, AllocError> {
+        Ok(Life {
+            network,
+            ledger: Ledger::open(heap, network)?,
+            text: String::new(heap),
+        })
+    }
+
+    pub fn perform(&mut self, queues: &[Vec<u8>], request: Request) -> Result<(), AllocError> {
+        let answer = self.ledger.perform(queues, request);
+        writeln!(self.text, "{request}: {answer}")
+    }
+
+    // The requests with their answers and the sheet, which has the ledger's payments or those that are given.
+    pub fn close(
+        self,
+        queues: &[Vec<u8>],
+        payments: Option<Payments>,
+    ) -> Result<String, AllocError> {
+        let Life {
+            network,
+            mut ledger,
+            mut text,
+        } = self;
+        let account = ledger.close(queues);
+        let payments = payments.unwrap_or(ledger.payments);
+        let sheet = Sheet::new(network, &payments, account);
+        write!(text, "{sheet}")?;
+        Ok(text)
+    }
+}
