@@ -3,17 +3,18 @@ ghost use Rattle.std.specs.Prelude.{◌≡◌, slice_index};
 ghost use Rattle.network.specs.Answers.{Gives};
 ghost use Rattle.netfile.specs.Records.{counted_fault};
 
-use crate::fault::file_fault;
 use crate::kind::Kind;
-use crate::record::{Record, first_record};
+use crate::record::Record;
+use crate::rest::Rest;
 use network::{Cause, Fault, MemberCount};
 
 // Counts the members by the Network record alone.
 pub fn count(file: &[u8]) -> Result<MemberCount, Fault>
     ensures { Gives (counted_fault file.now) (λ count. count.n ≡ slice_index file.now 1) (Unit {0}) result }
 {
-    let Record::Network(body) = first_record(file, 0, Kind::Network, Kind::Network)? else {
-        return Err(file_fault(Cause::NotDue, 0));
+    let rest = Rest::of(file, 0);
+    let Record::Network(body) = rest.first_record(Kind::Network, Kind::Network)? else {
+        return Err(rest.fault(Cause::NotDue));
     };
     MemberCount::new(body[0])
 }

@@ -9,6 +9,7 @@ mod kind;
 mod loading;
 mod reading;
 mod record;
+mod rest;
 mod trips;
 mod writer;
 mod writing;

@@ -5,6 +5,7 @@ use crate::due::Due;
 use crate::fault::file_fault;
 use crate::kind::BODY_LENGTHS;
 use crate::reading::read;
+use crate::rest::Rest;
 use network::{Cause, Draft, Fault};
 
 // Sets every entry of a draft from the file of a network of as many members. The whole file is checked
@@ -18,7 +19,7 @@ pub fn load(draft: &mut Draft, file: &[u8]) -> Result<(), Fault>
     let mut due = Due::Network;
     let mut byte = 0;
     while let Some(number) = file.get(byte) {
-        due = read(&mut next, &file[byte..], byte, due)?;
+        due = read(&mut next, Rest::of(file, byte), due)?;
         byte += 1 + BODY_LENGTHS[*number as usize];
     }
     let Due::Nothing = due else {

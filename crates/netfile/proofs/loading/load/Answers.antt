@@ -1,5 +1,5 @@
-use Rattle.std.proofs.Common.{◌≡◌, ℕ, ◌+◌, ◌-◌, ◌≤◌, List, length, take, drop, Some, Ok, Err, sym, refl, ap, ◌∙◌, subst, arith}
-use Rattle.std.proofs.lemmas.List.{take_all, drop_all, take_rest}
+use Rattle.std.proofs.Common.{◌≡◌, ℕ, ◌+◌, ◌≤◌, List, length, take, drop, Some, Ok, Err, sym, refl, ap, ◌∙◌, subst, arith}
+use Rattle.std.proofs.lemmas.List.{take_all, drop_all}
 use Rattle.std.proofs.lemmas.Grind.{common_steps}
 use Rattle.std.proofs.lemmas.Result.{err_from_is_err_and}
 use Rattle.network.specs.declared.draft.Draft.{Draft}
@@ -29,8 +29,9 @@ returns-in_err-due c =
     let due = c.loop-number.due in
     let b = c.loop-number.byte in
     let inv = c.loop-number.invariant in
-    let same = ap (λ n. due_fault n due b (drop b s)) (sym inv.1.0) ∙ ap (due_fault f.n due b) (sym (take_rest s b)) in
-    let all : Loaded d s c.from_residual.result d = rw (p.1, p.2) (refused d s _ f due b inv (same ∙ c.in_err-due.ensures.0)) in
+    let same = ap (λ n. due_fault n due b (drop b s)) (sym inv.1.0) ∙ ap (due_fault f.n due b) (sym c.of.ensures.bytes) in
+    let at = ap (λ k. due_fault f.n due k c.of.result.bytes.now) (sym c.of.ensures.byte) in
+    let all : Loaded d s c.from_residual.result d = rw (p.1, p.2) (refused d s _ f due b inv (same ∙ (at ∙ c.in_err-due.ensures.0))) in
     record { loaded = all; accepts = accepts d d s c.from_residual.result all; only = only d d s c.from_residual.result all }
 
 pub loop-number-preserved : goal.loop-number-preserved
@@ -41,10 +42,11 @@ loop-number-preserved c =
     let b = c.loop-number.byte in
     let n = c.args.draft.now.figures.n in
     let next = c.in_ok-due.due in
-    let t = take (length s - b) (drop b s) in
+    let t = c.of.result.bytes.now in
     let read = c.in_ok-due.ensures in
-    let on = turn f g n b c.loop-number.due next s t (take_rest s b) (λ i. omega (arith, c.type_inv.file i))
-    (grind arith) c.loop-number.invariant.1 read.0 read.1.0 read.1.1 in
+    let at = ap (λ k. due_fault f.n c.loop-number.due k t) (sym c.of.ensures.byte) in
+    let on = turn f g n b c.loop-number.due next s t c.of.ensures.bytes (λ i. omega (arith, c.type_inv.file i))
+    (grind arith) c.loop-number.invariant.1 (at ∙ read.0) read.1.0 read.1.1 in
     let number : kind t ≡ c.in-Some.number.now = grind (arith, common_steps) in
     subst (λ k. (b + (1 + body_length k) ≤ length s) × Stands n g next (take (b + (1 + body_length k)) s)) number on
 
