@@ -38,7 +38,7 @@ impl Case {
 }
 
 // The cases of standard input.
-pub fn read_cases(rt: &HostRuntime) -> anyhow::Result<Vec<Case>> {
+pub fn read_cases(rt: &(impl Input + AllocGlobal)) -> anyhow::Result<Vec<Case>> {
     let heap = rt.alloc();
     let mut cases = Vec::new(heap);
     let mut open = None;

@@ -34,7 +34,7 @@ use std::process::ExitCode;
 // Compares cases of one kind and prints what came of them; these faults are counted where something differs. Answers
 // whether nothing does.
 fn compare<F: FnOnce(&mut Tally) -> Result<(), AllocError>>(
-    rt: &HostRuntime,
+    rt: &(impl Print + AllocGlobal),
     name: &str,
     faults: &[usize],
     run: F,

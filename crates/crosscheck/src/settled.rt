@@ -1,13 +1,19 @@
 // The settled examples of divisions, by the engine's rulebooks.
 use crate::engine::draft_of;
+use crate::records::Records;
 use crate::tally::Tally;
 use rules::{ClassTable, Classes, Dual, EqualAwards, Jefferson, Rulebook, UnitRule};
 use std::alloc::{AllocError, Global};
 
-// Three members of the classes 1, 0 and 0.
-const CLASSED: [u8; 27] = [
-    1, 3, 2, 0, 0, 1, 0, 0, 0, 0, 2, 1, 0, 0, 0, 0, 0, 0, 2, 2, 0, 0, 0, 0, 0, 0, 4,
-];
+// The file of three members of the classes 1, 0 and 0.
+fn classed(heap: Global) -> Result<Vec<u8>, AllocError> {
+    let mut file = Records::new(heap);
+    file.push_network(3)?;
+    file.push_member(0, 0, 1, 0)?;
+    file.push_member(1, 0, 0, 0)?;
+    file.push_member(2, 0, 0, 0)?;
+    file.finish()
+}
 
 // What a rulebook answers, as text.
 fn awards_text<R: Rulebook>(
@@ -44,8 +50,10 @@ pub fn compare_settled(tally: &mut Tally) -> Result<(), AllocError> {
     expect(tally, &jefferson, 3, &[6, 3], &[2, 1])?;
     let dual = Dual::new(UnitRule::new(EqualAwards));
     expect(tally, &dual, 1, &[1, 1], &[0, 1])?;
-    let Some(draft) = draft_of(&CLASSED) else {
-        return tally.compare(&CLASSED, "no network", "");
+    let file = classed(tally.heap)?;
+    let file = file.as_slice();
+    let Some(draft) = draft_of(file) else {
+        return tally.compare(file, "no network", "");
     };
     let table = ClassTable::of(draft.figures());
     let classes = Classes::new(UnitRule::new(EqualAwards), table);

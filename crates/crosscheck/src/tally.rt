@@ -72,7 +72,7 @@ impl Tally {
     }
 
     // Prints the count, and if something differs the first difference and how often each of these faults came up.
-    pub fn print(&self, rt: &HostRuntime, name: &str, faults: &[usize]) -> anyhow::Result<()> {
+    pub fn print(&self, rt: &impl Print, name: &str, faults: &[usize]) -> anyhow::Result<()> {
         println!(rt; "{name}: {self}")?;
         if let Some(first) = &self.first {
             println!(rt; "the first that differs: {first}")?;

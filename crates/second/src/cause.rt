@@ -2,7 +2,7 @@
 use std::fmt;
 
 // Each cause has its fixed number, by which it is printed.
-#[derive(Clone, Copy)]
+#[derive(Clone, Copy, PartialEq, Eq, Debug)]
 pub enum Cause {
     // a network has 1 to 32 members
     MemberCount = 1,

@@ -14,7 +14,8 @@ struct Purse {
     spent: u32,
 }
 
-// The purses of all members; past the last member they are empty.
+// The purses of all members; past the last member they are empty. Of a fixed width, so that a step keeps what was
+// before it as a plain value and cannot run out of memory.
 #[derive(Clone, Copy, Default)]
 struct Flow {
     purses: [Purse; 32],

@@ -1,9 +1,10 @@
 // Why something is not done.
 use crate::refusal::Refusal;
 use std::alloc::{AllocError, AllocFailed};
+use std::error::Error;
 use std::fmt;
 
-#[derive(Drop)]
+#[derive(Debug, Drop)]
 pub enum Halt {
     // an input is longer than any file
     TooLong,
@@ -38,3 +39,5 @@ impl fmt::Display for Halt {
         }
     }
 }
+
+impl Error for Halt {}

@@ -1,9 +1,10 @@
 // Refusals: what is wrong, and what the layer that refuses names of it.
 use crate::cause::Cause;
+use std::error::Error;
 use std::fmt;
 
 // The members that a refusal names.
-#[derive(Clone, Copy)]
+#[derive(Clone, Copy, PartialEq, Eq, Debug)]
 pub enum Named {
     Nobody,
     Debtor(u8),
@@ -25,7 +26,7 @@ impl fmt::Display for Named {
 }
 
 // A refusal, by its layer. A byte is the first of the record that was refused.
-#[derive(Clone, Copy)]
+#[derive(Clone, Copy, PartialEq, Eq, Debug)]
 pub enum Refusal {
     File {
         cause: Cause,
@@ -61,3 +62,5 @@ impl fmt::Display for Refusal {
         }
     }
 }
+
+impl Error for Refusal {}

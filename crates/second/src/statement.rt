@@ -59,7 +59,8 @@ impl<'a> Sheet<'a> {
         }
     }
 
-    // Each claim above 0 has a line.
+    // Each claim above 0 has a line. The chain over the rows stands in each of these methods: of a chain that a method
+    // answers, the proof of a loop does not know that it ends.
     fn write_payments<W: fmt::Write>(&self, f: &mut fmt::Formatter<W>) -> fmt::Result {
         let rows = self.network.members.iter().zip(self.payments.rows.iter());
         for (debtor, (member, row)) in rows.enumerate() {
