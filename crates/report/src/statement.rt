@@ -1,30 +1,20 @@
 // The lines of a settlement sheet.
-ghost use Rattle.std.specs.Prelude.{◌≡◌, ◌<◌, ◌++◌, IfOk, OnOk};
-ghost use Rattle.report.specs.Sheets.{default_lines, equity_lines, lines_of, paid_lines, row_lines};
+ghost use Rattle.std.specs.Prelude.{◌≡◌, ◌++◌, IfOk, OnOk};
+ghost use Rattle.report.specs.Sheets.{default_lines, equity_lines, lines_of, paid_lines};
 
 use crate::line::Line;
 use book::Sheet;
 use std::alloc::{AllocError, Global};
 
-// One line for each claim on a debtor.
-fn push_row(lines: &mut Vec<Line>, sheet: &Sheet, debtor: u8) -> Result<(), AllocError>
-    requires { debtor < sheet.now.figures.n }
-    ensures { OnOk result (lines.new.items ≡ lines.old.items ++ row_lines sheet.now debtor sheet.now.figures.n) }
-{
-    for creditor in 0..sheet.figures.n {
-        if sheet.figures.claims[debtor as usize][creditor as usize] > 0 {
-            let units = sheet.paid[debtor as usize][creditor as usize];
-            lines.push(Line::Paid(debtor, creditor, units))?;
-        }
-    }
-    Ok(())
-}
-
+// One line for each claim.
 fn push_payments(lines: &mut Vec<Line>, sheet: &Sheet) -> Result<(), AllocError>
     ensures { OnOk result (lines.new.items ≡ lines.old.items ++ paid_lines sheet.now sheet.now.figures.n) }
 {
-    for debtor in 0..sheet.figures.n {
-        push_row(lines, sheet, debtor)?;
+    let n = sheet.figures.n;
+    for (debtor, (claims, paid)) in (0..n).zip(sheet.figures.claims.iter().zip(&sheet.paid)) {
+        let row = (0..n).zip(claims.iter().zip(paid.iter()));
+        let claimed = row.filter(|(_, (claim, _))| **claim != 0);
+        lines.extend(claimed.map(|(creditor, (_, units))| Line::Paid(debtor, creditor, *units)))?;
     }
     Ok(())
 }
@@ -32,22 +22,16 @@ fn push_payments(lines: &mut Vec<Line>, sheet: &Sheet) -> Result<(), AllocError>
 fn push_equities(lines: &mut Vec<Line>, sheet: &Sheet) -> Result<(), AllocError>
     ensures { OnOk result (lines.new.items ≡ lines.old.items ++ equity_lines sheet.now sheet.now.figures.n) }
 {
-    for member in 0..sheet.figures.n {
-        lines.push(Line::Equity(member, sheet.equities[member as usize]))?;
-    }
-    Ok(())
+    let equities = (0..sheet.figures.n).zip(&sheet.equities);
+    lines.extend(equities.map(|(member, units)| Line::Equity(member, *units)))
 }
 
 fn push_defaults(lines: &mut Vec<Line>, sheet: &Sheet) -> Result<(), AllocError>
     ensures { OnOk result (lines.new.items ≡ lines.old.items ++ default_lines sheet.now sheet.now.figures.n) }
 {
-    for member in 0..sheet.figures.n {
-        let defaulted = sheet.defaults[member as usize];
-        if defaulted {
-            lines.push(Line::Default(member))?;
-        }
-    }
-    Ok(())
+    let members = (0..sheet.figures.n).zip(&sheet.defaults);
+    let defaults = members.filter(|(_, defaulted)| **defaulted);
+    lines.extend(defaults.map(|(member, _)| Line::Default(member)))
 }
 
 // What is paid on each claim in the order of the file, each member's equity, who defaults, and the
