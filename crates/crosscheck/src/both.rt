@@ -26,12 +26,12 @@ pub struct Life<'a> {
 }
 
 impl<'a> Life<'a> {
-    pub fn open(heap: Global, network: &'a Network) -> Result<Life<'a>, AllocError> {
-        Ok(Life {
+    pub fn open(heap: Global, network: &'a Network) -> Life<'a> {
+        Life {
             network,
-            ledger: Ledger::open(heap, network)?,
+            ledger: Ledger::open(network),
             text: String::new(heap),
-        })
+        }
     }
 
     pub fn perform(&mut self, queues: &[Vec<u8>], request: Request) -> Result<(), AllocError> {

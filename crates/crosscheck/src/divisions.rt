@@ -121,11 +121,11 @@ pub fn compare_divisions(dice: &mut Dice, tally: &mut Tally, count: u32) -> Resu
         return Ok(());
     };
     let rulebook = ring_rulebook(draft.figures());
-    let classes = network.classes(heap)?;
+    let classes = network.classes();
     for _division in 0..count {
         let division = Division::random(heap, dice)?;
         let text = division.engine_text(heap, &rulebook)?;
-        let expected = division.expected_text(heap, classes.as_slice())?;
+        let expected = division.expected_text(heap, &classes)?;
         tally.compare(file.as_slice(), text.as_str(), expected.as_str())?;
     }
     Ok(())

@@ -19,11 +19,11 @@ fn expected_text(
 ) -> Result<String, AllocError> {
     let queues = Rules::Ring.queues(heap, network)?;
     let queues = queues.as_slice();
-    let mut life = Life::open(heap, network)?;
+    let mut life = Life::open(heap, network);
     for request in requests {
         life.perform(queues, *request)?;
     }
-    let least = least_payments(heap, network, queues)?;
+    let least = least_payments(network, queues);
     life.close(queues, Some(least))
 }
 

@@ -95,7 +95,7 @@ fn engine_text(heap: Global, draft: Draft, steps: &[Step]) -> Result<String, All
 
 // What the second implementation has of such a life.
 fn expected_text(heap: Global, network: &Network, steps: &[Step]) -> Result<String, AllocError> {
-    let mut life = Life::open(heap, network)?;
+    let mut life = Life::open(heap, network);
     for step in steps {
         let queues = step.rules.queues(heap, network)?;
         life.perform(queues.as_slice(), step.request)?;

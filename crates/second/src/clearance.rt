@@ -16,7 +16,7 @@ pub fn clear(heap: Global, input: &[u8]) -> Result<String, Halt> {
     let network = read(heap, input)?;
     let queues = Rules::Ring.queues(heap, &network)?;
     let queues = queues.as_slice();
-    let payments = least_payments(heap, &network, queues)?;
+    let payments = least_payments(&network, queues);
     let account = account_of_closing(&network, queues);
     Ok(Sheet::new(&network, &payments, account).to_string(heap)?)
 }

@@ -4,7 +4,6 @@ use crate::payments::Payments;
 use crate::queue::front;
 use crate::request::Round;
 use crate::statement::Account;
-use std::alloc::{AllocError, Global};
 use std::mem;
 
 // The estate of a member, and the estate from which it has paid so far.
@@ -82,19 +81,18 @@ impl Flow {
 }
 
 // The least clearing payments.
-pub fn least_payments(
-    heap: Global,
-    network: &Network,
-    queues: &[Vec<u8>],
-) -> Result<Payments, AllocError> {
+pub fn least_payments(network: &Network, queues: &[Vec<u8>]) -> Payments {
     let mut flow = Flow::start(network);
     let _ = Account::of_rounds(network.units_of_claims(), || flow.step_at_once(queues));
-    let rows = queues
-        .iter()
-        .zip(flow.purses.iter())
-        .map(|(queue, purse)| front(queue.as_slice(), purse.spent))
-        .collect(heap)?;
-    Ok(Payments { rows })
+    let mut payments = Payments::default();
+    for (row, (queue, purse)) in payments
+        .rows
+        .iter_mut()
+        .zip(queues.iter().zip(&flow.purses))
+    {
+        *row = front(queue.as_slice(), purse.spent);
+    }
+    payments
 }
 
 // The account of closing a book without payments.

@@ -7,19 +7,20 @@ use crate::refusal::Refusal;
 use crate::request::{Answer, Request, Round};
 use crate::row::Row;
 use crate::statement::Account;
-use std::alloc::{AllocError, Global};
 
 // The payments so far in a network. The queues by which it is worked may differ from request to request.
-#[derive(Drop)]
+#[derive(Clone, Copy)]
 pub struct Ledger<'a> {
     network: &'a Network,
     pub payments: Payments,
 }
 
 impl<'a> Ledger<'a> {
-    pub fn open(heap: Global, network: &'a Network) -> Result<Ledger<'a>, AllocError> {
-        let payments = Payments::none(heap, network.members.len())?;
-        Ok(Ledger { network, payments })
+    pub fn open(network: &'a Network) -> Ledger<'a> {
+        Ledger {
+            network,
+            payments: Payments::default(),
+        }
     }
 
     fn member(&self, number: usize) -> Result<&'a Member, Cause> {
@@ -33,13 +34,16 @@ impl<'a> Ledger<'a> {
     }
 
     fn paid_row(&self, debtor: usize) -> Result<&Row, Cause> {
-        let rows = self.payments.rows.as_slice();
-        rows.get(debtor).ok_or(Cause::NoSuchMember)
+        self.member(debtor)?;
+        self.payments.rows.get(debtor).ok_or(Cause::NoSuchMember)
     }
 
     fn paid_row_mut(&mut self, debtor: usize) -> Result<&mut Row, Cause> {
-        let rows = self.payments.rows.as_mut_slice();
-        rows.get_mut(debtor).ok_or(Cause::NoSuchMember)
+        self.member(debtor)?;
+        self.payments
+            .rows
+            .get_mut(debtor)
+            .ok_or(Cause::NoSuchMember)
     }
 
     fn due_row(&self, queues: &[Vec<u8>], debtor: usize) -> Result<Row, Cause> {

@@ -1,6 +1,6 @@
 // A network as it stands in a file.
 use crate::row::Row;
-use std::alloc::{AllocError, Global};
+use std::alloc::Global;
 
 // A member, with the claims on it.
 #[derive(Clone, Copy)]
@@ -23,8 +23,13 @@ impl Network {
         }
     }
 
-    pub fn classes(&self, heap: Global) -> Result<Vec<u8>, AllocError> {
-        self.members.iter().map(|member| member.class).collect(heap)
+    // The class of each member, and 0 past them.
+    pub fn classes(&self) -> [u8; 32] {
+        let mut classes = [0; 32];
+        for (class, member) in classes.iter_mut().zip(self.members.iter()) {
+            *class = member.class;
+        }
+        classes
     }
 
     // All claims together.

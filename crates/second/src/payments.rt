@@ -1,20 +1,14 @@
 // Payments from each debtor to each creditor.
 use crate::row::Row;
-use std::alloc::{AllocError, Global};
 
-#[derive(Drop)]
+// A row for each debtor; past the last debtor they are empty. Of a fixed width, so that a ledger is opened, and the
+// least payments are found, without a want of memory.
+#[derive(Clone, Copy, Default)]
 pub struct Payments {
-    // the row of each debtor
-    pub(crate) rows: Vec<Row>,
+    pub(crate) rows: [Row; 32],
 }
 
 impl Payments {
-    // No payments of so many debtors.
-    pub(crate) fn none(heap: Global, debtors: usize) -> Result<Payments, AllocError> {
-        let rows = vec![in heap; Row::default(); debtors]?;
-        Ok(Payments { rows })
-    }
-
     // What a creditor has of everyone.
     pub(crate) fn total_to(&self, creditor: usize) -> u32 {
         self.rows

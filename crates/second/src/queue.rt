@@ -38,14 +38,13 @@ impl Rules {
 
     // The queue of each member of a network.
     pub fn queues(self, heap: Global, network: &Network) -> Result<Vec<Vec<u8>>, AllocError> {
-        let classes = network.classes(heap)?;
-        let classes = classes.as_slice();
+        let classes = network.classes();
         network
             .members
             .iter()
             .map(|member| {
                 let rule = self.of_house(member.house);
-                queue_of(heap, rule, classes, member.claims.as_slice())
+                queue_of(heap, rule, &classes, member.claims.as_slice())
             })
             .try_collect(heap)
     }
