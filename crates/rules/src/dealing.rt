@@ -52,16 +52,15 @@ impl<S: Standard> Contest<'_, S> {
     }
 
     // Hands out the units that are left, up to `units`.
-    pub(crate) fn deal(&self, begun: Standing, units: u32, awards: &mut [u32])
+    pub(crate) fn deal(&self, mut begun: Standing, units: u32, awards: &mut [u32])
         requires begun { Underway (S.scored self.now.standard.now) self.now.claims.now begun.units awards.old begun.heads }
         requires order { begun.units ≤ units }
         ensures { awards.new ≡ dealt (S.scored self.now.standard.now) self.now.claims.now units }
     {
-        let mut heads = begun.heads;
         for _unit in begun.units..units {
-            if let Some(j) = self.pick(awards, &heads) {
+            if let Some(j) = self.pick(awards, &begun.heads) {
                 awards[j] += 1;
-                heads[j] = self.score(j, awards[j]);
+                begun.heads[j] = self.score(j, awards[j]);
             }
         }
     }
