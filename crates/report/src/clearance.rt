@@ -14,7 +14,8 @@ use std::alloc::{AllocError, Global};
 // A longer input is not read as a network file.
 pub const LONGEST_INPUT: usize = 65_536;
 
-// The lines of a network that was cleared, or the one line of a refusal.
+// The lines of a network that was cleared, or the one line of a refusal. (A flag beside the text, and no enum: whoever takes a
+// report uses the text alike in both cases, and the flag is the exit status.)
 #[derive(Drop)]
 pub struct Report {
     pub text: String,
