@@ -8,7 +8,7 @@ use book::{Sheet, Task, equal_sheets, work_both};
 use netfile::{count, load};
 use network::{Draft, Fault};
 use order::parse_order;
-use report::{Line, sheet_lines};
+use report::sheet_lines;
 use rules::ring_rulebook;
 use std::{env, fs, io};
 
@@ -29,10 +29,15 @@ fn read_order(rt: &HostRuntime, path: &str) -> anyhow::Result<Vec<Task>> {
     }
 }
 
-// Fills two drafts from one file.
-fn load_both(file: &[u8], first: &mut Draft, second: &mut Draft) -> Result<(), Fault> {
-    load(first, file)?;
-    load(second, file)
+// What the network's file gives. If it is refused, says why and ends the program with status 1.
+fn accepted<T>(rt: &HostRuntime, answer: Result<T, Fault>) -> anyhow::Result<T> {
+    match answer {
+        Ok(given) => Ok(given),
+        Err(fault) => {
+            println!(rt; "{fault}")?;
+            Err(anyhow!("{:?}", "the network is refused"))
+        }
+    }
 }
 
 fn print_tasks(rt: &HostRuntime, name: &str, tasks: &[Task]) -> io::Result<()> {
@@ -61,7 +66,8 @@ fn print_sheets(rt: &HostRuntime, one: &Sheet, two: &Sheet) -> anyhow::Result<()
     Ok(())
 }
 
-fn run(rt: &HostRuntime) -> anyhow::Result<()> {
+fn main(rt: HostRuntime) -> anyhow::Result<()> {
+    let rt = &rt;
     let mut args = env::args(rt)?;
     let _program = args.next();
     let network = next_argument(&mut args, "no network file")?;
@@ -70,15 +76,11 @@ fn run(rt: &HostRuntime) -> anyhow::Result<()> {
     let file = fs::read(rt, network.as_str())?;
     let mut tasks = read_order(rt, first_order.as_str())?;
     let mut others = read_order(rt, second_order.as_str())?;
-    let count = match count(file.as_slice()) {
-        Ok(count) => count,
-        Err(fault) => return refuse(rt, fault),
-    };
+    let count = accepted(rt, count(file.as_slice()))?;
     let mut first = Draft::new(count);
     let mut second = Draft::new(count);
-    if let Err(fault) = load_both(file.as_slice(), &mut first, &mut second) {
-        return refuse(rt, fault);
-    }
+    accepted(rt, load(&mut first, file.as_slice()))?;
+    accepted(rt, load(&mut second, file.as_slice()))?;
     let rulebook = ring_rulebook(first.figures());
     let (one, two) = work_both(
         first,
@@ -90,14 +92,4 @@ fn run(rt: &HostRuntime) -> anyhow::Result<()> {
     print_tasks(rt, "first order", tasks.as_slice())?;
     print_tasks(rt, "second order", others.as_slice())?;
     print_sheets(rt, &one, &two)
-}
-
-fn refuse(rt: &HostRuntime, fault: Fault) -> anyhow::Result<()> {
-    let line = Line::Fault(fault);
-    println!(rt; "{line}")?;
-    Err(anyhow!("{:?}", "the network is refused"))
-}
-
-fn main(rt: HostRuntime) -> anyhow::Result<()> {
-    run(&rt)
 }

@@ -2,7 +2,7 @@
 use book::{Call, Task};
 use std::alloc::{AllocError, AllocFailed, Global};
 use std::fmt;
-use std::str::SplitWhitespace;
+use std::str::{FromStr, SplitWhitespace};
 
 // Why an order is not read.
 #[derive(Drop)]
@@ -33,52 +33,39 @@ impl<T: Drop> From<AllocFailed<T>> for OrderError {
     }
 }
 
-fn member(words: &mut SplitWhitespace<'_>) -> Option<u8> {
-    words.next()?.parse::<u8>().ok()
-}
-
-fn units(words: &mut SplitWhitespace<'_>) -> Option<u32> {
-    words.next()?.parse::<u32>().ok()
+// The next word, as a number. (nettext has the same line: shared it would be public, with a contract over texts and their words.)
+fn number<T: FromStr<Err: Drop>>(words: &mut SplitWhitespace<'_>) -> Option<T> {
+    words.next()?.parse::<T>().ok()
 }
 
 // The call that a line is, if it is one.
 fn parse_call(line: &str) -> Option<Call> {
     let mut words = line.split_whitespace();
     let call = match words.next()? {
-        "pay" => Call::Pay(member(&mut words)?, member(&mut words)?, units(&mut words)?),
-        "settle" => Call::Settle(member(&mut words)?),
+        "pay" => Call::Pay(
+            number(&mut words)?,
+            number(&mut words)?,
+            number(&mut words)?,
+        ),
+        "settle" => Call::Settle(number(&mut words)?),
         "round" => Call::Round,
-        "paid" => Call::Paid(member(&mut words)?, member(&mut words)?),
-        "cash" => Call::Cash(member(&mut words)?),
-        "due" => Call::Due(member(&mut words)?, member(&mut words)?),
+        "paid" => Call::Paid(number(&mut words)?, number(&mut words)?),
+        "cash" => Call::Cash(number(&mut words)?),
+        "due" => Call::Due(number(&mut words)?, number(&mut words)?),
         "next" => Call::Next,
         _ => return None,
     };
-    if words.next().is_some() {
-        None
-    } else {
-        Some(call)
-    }
-}
-
-fn without_comment(line: &str) -> &str {
-    match line.split_once('#') {
-        Some((call, _)) => call,
-        None => line,
-    }
+    words.next().is_none().then_some(call)
 }
 
 // The calls of an order, to be made.
 pub fn parse_order(heap: Global, text: &str) -> Result<Vec<Task>, OrderError> {
     let mut tasks = Vec::new(heap);
     for (i, line) in text.lines().enumerate() {
-        let line = without_comment(line).trim();
-        if line.is_empty() {
-            continue;
-        }
-        match parse_call(line) {
-            Some(call) => tasks.push(Task { call, answer: None })?,
-            None => return Err(OrderError::Line(i.saturating_add(1))),
+        let line = line.split_once('#').map_or(line, |(call, _)| call).trim();
+        if !line.is_empty() {
+            let call = parse_call(line).ok_or(OrderError::Line(i.saturating_add(1)))?;
+            tasks.push(Task { call, answer: None })?;
         }
     }
     Ok(tasks)

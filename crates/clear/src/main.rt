@@ -12,9 +12,5 @@ fn main(rt: HostRuntime) -> anyhow::Result<ExitCode> {
     rt.stdin().take(limit).read_to_end(&mut input)?;
     let report = clear(rt.alloc(), input.as_slice())?;
     rt.print(report.text)?;
-    if report.cleared {
-        Ok(ExitCode::SUCCESS)
-    } else {
-        Ok(ExitCode::FAILURE)
-    }
+    Ok(ExitCode::from(u8::from(!report.cleared)))
 }

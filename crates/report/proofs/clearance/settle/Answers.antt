@@ -1,4 +1,4 @@
-use Rattle.std.proofs.Common.{[], sym, refl, ap, ◌∙◌, subst}
+use Rattle.std.proofs.Common.{arith, [], sym, refl, subst}
 use Rattle.network.specs.declared.draft.Draft.{Draft}
 use Rattle.network.specs.declared.figures.Figures.{Figures}
 use Rattle.rules.specs.Classes.{classes_of}
@@ -7,8 +7,7 @@ use Rattle.clearing.proofs.Respects.{least_eq}
 use Rattle.book.specs.Tables.{cells, network_of}
 use Rattle.book.specs.Rulebooks.{division}
 use Rattle.book.specs.Lives.{EqualDrafts, Life, rest}
-use Rattle.report.specs.Lines.{printed}
-use Rattle.report.proofs.clearance.clear_counted.Goals as goal
+use Rattle.report.proofs.clearance.settle.Goals as goal
 
 same : (draft : Draft) → EqualDrafts draft draft
 same draft = record { members = refl; endowments = λ i _. refl; houses = λ i _. refl; claims = λ i j _ _. refl }
@@ -24,11 +23,9 @@ returns c =
     record {
       draft = draft;
       rulebook = rulebook;
-      sheet = sheet;
-      short = c.requires.short;
-      file = c.in_default.ensures.loaded.1;
+      short = omega arith;
+      file = c.in_ok-load.ensures.loaded.1;
       houses = subst (λ (F : Figures). RingRules (ring_rule (ring_classes rulebook)) (classes_of F)) c.figures.ensures c.ring_rulebook-rulebook.ensures.rules;
       life = life;
       least = least_eq (network_of draft.figures) (division (ring_rule (ring_classes rulebook)) draft.figures) two.least (cells sheet.paid) (λ i j a b. sym (two.first.ends i j a b)) two.first.least;
-      lines = c.in_ok-text.ensures ∙ ap printed (c.as_slice.ensures.value ∙ c.in_ok-lines.ensures);
     }
