@@ -1,5 +1,5 @@
 -- What is reported of any string of bytes.
-use Rattle.std.specs.Prelude.{◌≡◌, ℕ, ◌<◌, ◌≤◌, Bool, true, false, ◌⊎◌, List, [], ◌∷◌, length, Some, None, Ok, Err, Result, slice_index}
+use Rattle.std.specs.Prelude.{◌≡◌, ℕ, ◌<◌, ◌≤◌, Bool, true, false, ◌⊎◌, List, [], ◌∷◌, length, Some, None, slice_index}
 use Rattle.network.specs.declared.draft.Draft.{Draft}
 use Rattle.netfile.specs.Files.{file_of}
 use Rattle.netfile.specs.Loads.{FaultOf}
@@ -27,25 +27,18 @@ Refuses input (Equity _ _) = ⊥
 Refuses input (Default _) = ⊥
 Refuses input (Rounds _ _ _) = ⊥
 
--- the input is the file of a draft, and with that sheet a book on that draft closes under the ring's rulebook, its
--- payments being the least clearing matrix
-pub record Settled (input : List ℕ) (sheet : Sheet) : Type 0 where
+-- the input is the file of a draft, and the text are the lines of the sheet with which a book on that draft closes
+-- under the ring's rulebook, its payments being the least clearing matrix
+pub record Clears (input text : List ℕ) : Type 0 where
   pub draft : Draft
   pub rulebook : RingRulebook
+  pub sheet : Sheet
   pub short : length input ≤ 65536
   pub file : input ≡ file_of draft.figures
   pub houses : RingRules (ring_rule (ring_classes rulebook)) (classes_of draft.figures)
   pub life : Life (ring_rule (ring_classes rulebook)) draft [] sheet
   pub least : Least (network_of draft.figures) (division (ring_rule (ring_classes rulebook)) draft.figures) (cells sheet.paid)
-
--- the input is settled, or refused by that line
-abbrev pub Settles : List ℕ → Result Sheet Line → Type 0
-Settles input (Ok sheet) = Settled input sheet
-Settles input (Err line) = Refuses input line
-
--- the input is settled with some sheet, and the text are that sheet's lines
-abbrev pub Clears : List ℕ → List ℕ → Type 0
-Clears input text = (sheet : Sheet) × Settled input sheet × (text ≡ printed (lines_of sheet))
+  pub lines : text ≡ printed (lines_of sheet)
 
 -- whether the input was cleared, and what is then printed
 abbrev pub Reported : List ℕ → Bool → List ℕ → Type 0

@@ -1,12 +1,15 @@
 // Clearing a network file: what is reported of any string of bytes.
-ghost use Rattle.std.specs.Prelude.{IfOk, string_bytes};
-ghost use Rattle.report.specs.Clearances.{Reported, Settles};
+ghost use Rattle.std.specs.Prelude.{◌≡◌, IfErr, IfOk, alloc_error, string_bytes};
+ghost use Rattle.report.specs.declared.clearance.Halt.TheVariants.{Refused, NoMemory};
+ghost use Rattle.report.specs.declared.line.Line.TheVariants.{Fault as Refusal};
+ghost use Rattle.report.specs.Clearances.{Clears, Reported};
+ghost use Rattle.report.specs.Halts.{Halts};
 
 use crate::line::{Line, print};
 use crate::statement::sheet_lines;
-use book::{Book, Sheet};
+use book::Book;
 use netfile::{count, load};
-use network::Draft;
+use network::{Draft, Fault};
 use rules::ring_rulebook;
 use std::alloc::{AllocError, Global};
 
@@ -21,34 +24,59 @@ pub struct Report {
     pub cleared: bool,
 }
 
-// The sheet with which a book closes under the ring's rulebook, opened on the network whose file the input is; or the line that
-// refuses the input.
-fn settle(input: &[u8]) -> Result<Sheet, Line>
-    ensures { Settles input.now result }
+// What ends a clearing before there is a sheet: the line that refuses the input, or a want of memory.
+#[derive(Drop)]
+enum Halt {
+    Refused(Line),
+    NoMemory(AllocError),
+}
+
+impl From<Fault> for Halt {
+    ghost from_gives = { λ fault halt. halt ≡ Refused (Refusal fault) };
+
+    fn from(fault: Fault) -> Halt {
+        Halt::Refused(Line::Fault(fault))
+    }
+}
+
+impl From<AllocError> for Halt {
+    ghost from_gives = { λ _ halt. halt ≡ NoMemory alloc_error };
+
+    fn from(error: AllocError) -> Halt {
+        Halt::NoMemory(error)
+    }
+}
+
+// The lines of the sheet with which a book closes under the ring's rulebook, opened on the network whose file the input is.
+fn sheet_text(heap: Global, input: &[u8]) -> Result<String, Halt>
+    ensures cleared { IfOk result (λ text. Clears input.now (string_bytes text)) }
+    ensures halted { IfErr result (Halts input.now) }
 {
     if input.len() > LONGEST_INPUT {
-        return Err(Line::TooLong);
+        return Err(Halt::Refused(Line::TooLong));
     }
     let count = count(input)?;
     let mut draft = Draft::new(count);
     load(&mut draft, input)?;
     let rulebook = ring_rulebook(draft.figures());
     let sheet = Book::open(draft).close(&rulebook);
-    Ok(sheet)
+    let lines = sheet_lines(heap, &sheet)?;
+    Ok(print(heap, lines.as_slice())?)
 }
 
 // Clears the network whose file the input is, or says why it is refused.
 pub fn clear(heap: Global, input: &[u8]) -> Result<Report, AllocError>
     ensures { IfOk result (λ report. Reported input.now report.cleared (string_bytes report.text)) }
 {
-    match settle(input) {
-        Ok(sheet) => Ok(Report {
-            text: print(heap, sheet_lines(heap, &sheet)?.as_slice())?,
+    match sheet_text(heap, input) {
+        Ok(text) => Ok(Report {
+            text,
             cleared: true,
         }),
-        Err(line) => Ok(Report {
+        Err(Halt::Refused(line)) => Ok(Report {
             text: print(heap, &[line])?,
             cleared: false,
         }),
+        Err(Halt::NoMemory(error)) => Err(error),
     }
 }

@@ -1,7 +1,6 @@
 // The lines that a network is reported by.
 ghost use Rattle.std.specs.Prelude.{◌≡◌, IfOk, Some, string_bytes};
 ghost use Rattle.report.specs.Lines.{printed, text_of};
-ghost use Rattle.report.specs.declared.line.Line.TheVariants.{Fault as Refusal};
 
 use network::Fault;
 use std::alloc::{AllocError, Global};
@@ -20,14 +19,6 @@ pub enum Line {
     Rounds(u32, u32, u8),
     Fault(Fault),
     TooLong,
-}
-
-impl From<Fault> for Line {
-    ghost from_gives = { λ fault line. line ≡ Refusal fault };
-
-    fn from(fault: Fault) -> Line {
-        Line::Fault(fault)
-    }
 }
 
 impl fmt::Display for Line {
