@@ -34,14 +34,9 @@ impl Book {
         ensures works { Works (R.awarded rulebook.now) self.old tasks.new self.new }
         ensures calls { calls_of tasks.new ≡ calls_of tasks.old }
     {
-        // By index: of what iter_mut lends, a proof knows only the length.
-        for i in 0..tasks.len() {
-            let call = tasks[i].call;
-            let answer = self.perform(rulebook, call);
-            tasks[i] = Task {
-                call,
-                answer: Some(answer),
-            };
+        for task in tasks.iter_mut() {
+            let answer = self.perform(rulebook, task.call);
+            task.answer = Some(answer);
         }
     }
 }

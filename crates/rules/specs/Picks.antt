@@ -19,9 +19,11 @@ FirstOf f cs hs n (Some j) =
     ((k : ℕ) → k < n → slice_index hs k < slice_index cs k → NotAbove (next_score f cs hs k) (next_score f cs hs j)) ×
     ((k : ℕ) → k < j → slice_index hs k < slice_index cs k → Below (next_score f cs hs k) (next_score f cs hs j))
 
-module _ (f : Scoring) (positive : (j c h : ℕ) → 1 ≤ (f j c h).1) (cs hs : List ℕ) where
-  first_more : (n : ℕ) (o : Option ℕ) → FirstOf f cs hs n o → FirstOf f cs hs (suc n) (contended f cs hs o n)
-  first_more n None full =
+module _ (f : Scoring) (cs hs : List ℕ) where
+  first_more :
+      (n : ℕ) → ((k : ℕ) → k < n → (c h : ℕ) → 1 ≤ (f k c h).1) → (o : Option ℕ) → FirstOf f cs hs n o →
+      FirstOf f cs hs (suc n) (contended f cs hs o n)
+  first_more n positive None full =
       cond_both (nat_lt (slice_index hs n) (slice_index cs n)) (Some n) None (FirstOf f cs hs (suc n))
       (λ short. (
         omega arith,
@@ -30,13 +32,13 @@ module _ (f : Scoring) (positive : (j c h : ℕ) → 1 ≤ (f j c h).1) (cs hs :
         (λ k lt wants. absurd (omega (arith, full k lt))),
       ))
       (λ met k lt. ⊎_elim (λ is. rw is (ltb-false _ _ met)) (λ ne. full k (omega arith)) (cases_eq k n))
-  first_more n (Some b) (lt-b, short-b, highest, earliest) =
+  first_more n positive (Some b) (lt-b, short-b, highest, earliest) =
       cond_both (nat_lt (slice_index hs n) (slice_index cs n)) (better f cs hs (Some b) n) (Some b) (FirstOf f cs hs (suc n))
       (λ short.
       cond_both (above (next_score f cs hs n) (next_score f cs hs b)) (Some n) (Some b) (FirstOf f cs hs (suc n))
       (λ up.
       let less : (k : ℕ) → k < n → slice_index hs k < slice_index cs k → Below (next_score f cs hs k) (next_score f cs hs n) =
-      λ k lt wants. below_trans (next_score f cs hs k) (next_score f cs hs b) (next_score f cs hs n) (positive k _ _) (highest k lt wants) (ltb-true _ _ up) in (
+      λ k lt wants. below_trans (next_score f cs hs k) (next_score f cs hs b) (next_score f cs hs n) (positive k lt _ _) (highest k lt wants) (ltb-true _ _ up) in (
         omega arith,
         ltb-true _ _ short,
         (λ k lt wants. ⊎_elim (λ is. rw is (omega arith)) (λ ne. omega (arith, less k (omega arith) wants)) (cases_eq k n)),
@@ -59,9 +61,15 @@ module _ (f : Scoring) (positive : (j c h : ℕ) → 1 ≤ (f j c h).1) (cs hs :
         earliest,
       ))
 
-  pub first_picked : (n : ℕ) → FirstOf f cs hs n (picked f cs hs n)
-  first_picked zero = λ k lt. absurd (omega arith)
-  first_picked (suc n) = first_more n (picked f cs hs n) (first_picked n)
+  -- where the scores of these n creditors are fractions
+  pub first_below : (n : ℕ) → ((k : ℕ) → k < n → (c h : ℕ) → 1 ≤ (f k c h).1) → FirstOf f cs hs n (picked f cs hs n)
+  first_below zero positive = λ k lt. absurd (omega arith)
+  first_below (suc n) positive =
+      let below : (k : ℕ) → k < n → (c h : ℕ) → 1 ≤ (f k c h).1 = λ k lt. positive k (omega arith) in
+      first_more n below (picked f cs hs n) (first_below n below)
+
+pub first_picked : (f : Scoring) (positive : (j c h : ℕ) → 1 ≤ (f j c h).1) (cs hs : List ℕ) (n : ℕ) → FirstOf f cs hs n (picked f cs hs n)
+first_picked f positive cs hs n = first_below f cs hs n (λ k lt. positive k)
 
 pub first_among_all : (f : Scoring) (cs hs : List ℕ) (o : Option ℕ) → FirstOf f cs hs (length cs) o → IfSome o (First f cs hs)
 first_among_all f cs hs None full = tt
