@@ -5,7 +5,8 @@ ghost use Rattle.book.specs.Tables.{Capped, Solvent, cells, network_of};
 use network::Figures;
 
 // A book, which closing uses up. `paid[i][j]` is what debtor i has paid creditor j: at most the claim,
-// and for each debtor in sum at most its estate, whatever rulebooks the book is worked under.
+// and for each debtor in sum at most its estate, whatever rulebooks the book is worked under. (A table of a fixed
+// width, and so are all rows of the book: no call on it may run out of memory.)
 #[derive(Drop)]
 pub struct Book {
     pub(crate) figures: Figures,

@@ -35,7 +35,8 @@ impl Shelf {
         }
     }
 
-    // Makes a call under the engine's rulebook with these rules.
+    // Makes a call under the engine's rulebook with these rules. (A match and no `dyn`: a book is worked under a type that
+    // is a `Rulebook`, and no crate but `rules` can make a `&dyn Rulebook` one.)
     fn perform(&self, book: &mut Book, rules: Rules, call: Call) -> Answer {
         match rules {
             Rules::Ring => book.perform(&self.ring, call),

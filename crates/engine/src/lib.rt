@@ -11,7 +11,7 @@ use report::clear;
 use rules::{Rulebook, ring_rulebook};
 use std::alloc::Global;
 
-// Stands for the length of a text that there was no memory to make.
+// Stands for the length of a text that there was no memory to make. (A number, since C takes no `Option`.)
 pub const NO_MEMORY: usize = usize::MAX;
 
 // Puts what clear prints for the input at the front of a buffer and answers its length. A buffer that is
@@ -27,7 +27,8 @@ pub extern "C" fn engine_clear(heap: Global, input: &[u8], buffer: &mut [u8]) ->
 }
 
 // Divides an estate by the rule that a house has in the ring's rulebook of the network whose file is
-// given. Answers 0, or the number of the fault by which the file or the list is refused.
+// given. Answers 0, or the number of the fault by which the file or the list is refused. (A number, since C
+// takes no `Result`.)
 #[unsafe(no_mangle)]
 pub extern "C" fn engine_awards(
     network: &[u8],

@@ -5,7 +5,7 @@ ghost use Rattle.rules.specs.Classes.{classes_of, of_class};
 use crate::claims::ClaimList;
 use network::Figures;
 
-// A class from 0 to 7 for each of 32 creditors.
+// A class from 0 to 7 for each of 32 creditors. (Of a fixed width: the rules have no heap.)
 #[derive(Clone, Copy)]
 pub struct ClassTable {
     classes: [u8; 32],
