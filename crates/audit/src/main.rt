@@ -14,30 +14,25 @@ use std::{env, fs, io};
 
 // A word of the command line, or what is missing. (What ends the program is printed in quotation marks.)
 fn next_argument(args: &mut env::Args, missing: &str) -> anyhow::Result<String> {
-    args.next().ok_or(anyhow!("{missing:?}"))
+    args.next().ok_or_else(|| anyhow!("{missing:?}"))
 }
 
 // The tasks of an order, read from a file.
 fn read_order(rt: &HostRuntime, path: &str) -> anyhow::Result<Vec<Task>> {
     let text = fs::read_to_string(rt, path)?;
-    match parse_order(rt.alloc(), text.as_str()) {
-        Ok(tasks) => Ok(tasks),
-        Err(error) => {
-            println!(rt; "{path}: {error}")?;
-            Err(anyhow!("{:?}", "an order is not read"))
-        }
-    }
+    parse_order(rt.alloc(), text.as_str()).or_else(|error| {
+        println!(rt; "{path}: {error}")?;
+        Err(anyhow!("{:?}", "an order is not read"))
+    })
 }
 
-// What the network's file gives. If it is refused, says why and ends the program with status 1.
+// What the network's file gives. If it is refused, says why, and answers the error that ends the program. (scribe has the
+// like: shared, it would need a crate of its own.)
 fn accepted<T>(rt: &HostRuntime, answer: Result<T, Fault>) -> anyhow::Result<T> {
-    match answer {
-        Ok(given) => Ok(given),
-        Err(fault) => {
-            println!(rt; "{fault}")?;
-            Err(anyhow!("{:?}", "the network is refused"))
-        }
-    }
+    answer.or_else(|fault| {
+        println!(rt; "{fault}")?;
+        Err(anyhow!("{:?}", "the network is refused"))
+    })
 }
 
 fn print_tasks(rt: &HostRuntime, name: &str, tasks: &[Task]) -> io::Result<()> {

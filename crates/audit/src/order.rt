@@ -33,7 +33,8 @@ impl<T: Drop> From<AllocFailed<T>> for OrderError {
     }
 }
 
-// The next word, as a number. (nettext has the same line: shared it would be public, with a contract over texts and their words.)
+// The next word, as a number. (nettext has the same line, and reads comments alike; shared, they would be public and need a
+// contract over texts and their words.)
 fn number<T: FromStr<Err: Drop>>(words: &mut SplitWhitespace<'_>) -> Option<T> {
     words.next()?.parse::<T>().ok()
 }

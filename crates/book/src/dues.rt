@@ -19,7 +19,7 @@ fn some_above(row: &[u32], due: &[u32]) -> bool
 }
 
 impl<'a> Seat<'a> {
-    // What the rulebook awards each creditor of the member's estate, which the caller has.
+    // What the rulebook awards each creditor of the member's estate, which the caller gives.
     pub(crate) fn due_row<R: Rulebook>(&self, rulebook: &R, estate: u32) -> [u32; 32]
         requires { estate ≡ estate_of self.now.book.now self.now.at }
         ensures { DueRow (R.awarded rulebook.now) self.now.book.now self.now.at result }
@@ -49,7 +49,7 @@ impl<'a> Seat<'a> {
         !self.recedes(&due) && *self.row() != due
     }
 
-    // What a settle would do at the member's estate, which the caller has; none if it has receded.
+    // What a settle would do at the member's estate, which the caller gives; none if it has receded.
     pub(crate) fn settlement<R: Rulebook>(&self, rulebook: &R, estate: u32) -> Option<Settlement>
         requires { estate ≡ estate_of self.now.book.now self.now.at }
         ensures { WouldSettle (R.awarded rulebook.now) self.now.book.now self.now.at result }

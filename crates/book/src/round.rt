@@ -9,7 +9,7 @@ use rules::Rulebook;
 
 impl Book {
     // Settles members 0 to n - 1 in order and passes over those that have receded. Answers the units
-    // moved and the members passed over.
+    // moved and the members passed over. (A pair, which is the form of a round's answer.)
     pub fn round<R: Rulebook>(&mut self, rulebook: &R) -> (u32, u8)
         ensures { GoesRound (R.awarded rulebook.now) self.old result self.new }
     {

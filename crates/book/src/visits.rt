@@ -8,6 +8,7 @@ ghost use Rattle.book.specs.Rulebooks.{Meaning};
 ghost use Rattle.book.specs.Visits.{Credited, Fresh, Kept, answer_of, tally_at};
 
 use crate::book::Book;
+use crate::seat::Seat;
 use crate::settlement::Settlement;
 use rules::Rulebook;
 
@@ -19,7 +20,8 @@ pub(crate) enum Visit {
     PassedOver(u32),
 }
 
-// What is kept of a member: the estate that it has now, kept up rather than summed anew, and its last visit.
+// What is kept of a member: the estate that it has now, kept up rather than summed anew, and its last visit. (That it
+// is kept of this very book stands in the contracts: beside the book's `&mut` a struct cannot hold the fact.)
 #[derive(Clone, Copy)]
 pub(crate) struct Tally {
     pub(crate) estate: u32,
@@ -40,23 +42,24 @@ fn credit(tallies: &mut [Tally; 32], before: &[u32; 32], after: &[u32; 32], n: u
     }
 }
 
-impl Book {
-    // A member's estate as it is, and no visit yet.
-    fn unvisited(&self, at: usize) -> Tally
-        requires { at < 32 }
-        ensures { Fresh self.now at result }
+impl Seat<'_> {
+    // The estate as it is, and no visit yet.
+    fn unvisited(&self) -> Tally
+        ensures { Fresh self.now.book.now self.now.at result }
     {
         Tally {
-            estate: self.seat(at).estate(),
+            estate: self.estate(),
             last: Visit::Never,
         }
     }
+}
 
+impl Book {
     // The estates as they are, and nobody visited yet.
     pub(crate) fn no_visits(&self) -> [Tally; 32]
         ensures { (A : Meaning) → Kept A self.now result }
     {
-        std::array::from_fn(|at| self.unvisited(at))
+        std::array::from_fn(|at| self.seat(at).unvisited())
     }
 
     // Settles a member at its kept estate, adds what it pays to its creditors' estates, and notes how the

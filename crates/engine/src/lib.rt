@@ -65,7 +65,7 @@ fn divide(
 ) -> Result<(), Fault>
     ensures { Divided network.now house estate claims.now awards.old result awards.new }
 {
-    // The draft is filled in place, not answered: nothing with arrays passes through a `Result`.
+    // The draft is filled in place and not answered: in the engine no table passes through a `Result`.
     let mut draft = Draft::new(count(network)?);
     load(&mut draft, network)?;
     let rulebook = ring_rulebook(draft.figures());

@@ -5,7 +5,7 @@ ghost use Rattle.netfile.specs.Files.{number_at, member_record, claim_record};
 use crate::kind::Kind;
 use network::Member;
 
-// The member's number and its entry.
+// The member's number and its entry. (No From, which could not ask for the length of the body.)
 pub(crate) fn member_in(body: &[u8]) -> (u8, Member)
     requires { length body.now ≡ 7 }
     ensures number { result.0 ≡ slice_index body.now 0 }

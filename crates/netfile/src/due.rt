@@ -5,7 +5,8 @@ pub(crate) enum Due {
     Network,
     // the Member record of this member
     Member(u8),
-    // a Claim record behind the last one, whose debtor and creditor stand here, or the End record
+    // a Claim record behind the last one, whose debtor and creditor stand here if there was one, or the
+    // End record
     Claim(Option<(u8, u8)>),
     // no further byte
     Nothing,

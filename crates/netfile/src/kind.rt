@@ -5,7 +5,8 @@ ghost use Rattle.netfile.specs.Records.{body_length};
 
 use network::Cause;
 
-// The length of a record's body by the number of its kind; no record has kind 0.
+// The length of a record's body by the number of its kind, in one table for the reader and the writer; no record
+// has kind 0.
 pub const BODY_LENGTHS: [usize; 5] = [0, 1, 7, 6, 0];
 
 // A kind of record, each with the number that stands for it in a file.

@@ -18,6 +18,7 @@ pub fn load(draft: &mut Draft, file: &[u8]) -> Result<(), Fault>
     let mut next = Draft::new(draft.count());
     let mut due = Due::Network;
     let mut byte = 0;
+    // by a place and not over an iterator: how far a record reaches, only its own kind tells
     while let Some(number) = file.get(byte) {
         due = read(&mut next, Rest::of(file, byte), due)?;
         byte += 1 + BODY_LENGTHS[*number as usize];

@@ -30,7 +30,7 @@ pub fn copy(from: &Draft, to: &mut Draft, buffer: &mut [u8]) -> Result<usize, Fa
 pub fn rewrite(file: &[u8], buffer: &mut [u8]) -> Result<usize, Fault>
     ensures { Rewritten file.now buffer.old result buffer.new }
 {
-    // The draft is filled in place, not answered: nothing with arrays passes through a `Result`.
+    // The draft is filled in place and not answered: in the engine no table passes through a `Result`.
     let mut draft = Draft::new(count(file)?);
     load(&mut draft, file)?;
     write(&draft, buffer)

@@ -2,7 +2,8 @@
 ghost use Rattle.std.specs.Prelude.{◌≡◌, ◌+◌, ◌≤◌, length};
 ghost use Rattle.netfile.specs.Writes.{Put};
 
-// What is written stands before `end`.
+// What is written stands before `end`. (Each call ensures that it is the same buffer still: of a `&mut` in a struct,
+// that has to be said.)
 #[derive(Drop)]
 pub(crate) struct Writer<'a> {
     pub(crate) buffer: &'a mut [u8],

@@ -41,7 +41,7 @@ impl fmt::Display for TextLine {
     }
 }
 
-// The next word, as a number.
+// The next word, as a number. (audit has the same line.)
 fn number<T: FromStr<Err: Drop>>(words: &mut SplitWhitespace<'_>) -> Option<T> {
     words.next()?.parse::<T>().ok()
 }

@@ -13,8 +13,8 @@ ghost use Rattle.network.specs.Faults.{
 
 use std::fmt;
 
-// Stands for a debtor or a creditor where a fault names none. (No Option: a fault names members as they were given, 255
-// among them, and both are the same number where a fault is printed.)
+// Stands for a debtor or a creditor where a fault names none. (No Option: every fault has a number for each, which is 255 where
+// none is named, as docs/FAULTS.md has it.)
 pub const NOBODY: u8 = 255;
 
 // The part of the engine that a refusal belongs to.

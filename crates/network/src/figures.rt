@@ -2,7 +2,7 @@
 ghost use Rattle.std.specs.Prelude.{◌≡◌, ℕ, ◌<◌, ◌≤◌, [], length, slice_index_or};
 ghost use Rattle.network.specs.Limits.{MembersFit, ClaimsFit, ClaimsAllowed};
 
-// The most members that a network may have, and so the width of every table.
+// The most members that a network may have.
 pub const MEMBERS: usize = 32;
 
 // What is entered of one member: the house that picks its division rule, its class as a creditor, and

@@ -1,4 +1,4 @@
--- What ends a clearing before there is a sheet.
+-- What ends a clearing without a text.
 use Rattle.std.specs.Prelude.{ℕ, List}
 use Rattle.report.specs.declared.clearance.Halt.{Halt}
 use Rattle.report.specs.declared.clearance.Halt.TheVariants.{Refused, NoMemory}

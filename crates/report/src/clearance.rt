@@ -24,7 +24,7 @@ pub struct Report {
     pub cleared: bool,
 }
 
-// What ends a clearing before there is a sheet: the line that refuses the input, or a want of memory.
+// What ends a clearing without a text: the line that refuses the input, or a want of memory.
 #[derive(Drop)]
 enum Halt {
     Refused(Line),
@@ -47,7 +47,7 @@ impl From<AllocError> for Halt {
     }
 }
 
-// The lines of the sheet with which a book closes under the ring's rulebook, opened on the network whose file the input is.
+// The lines of the sheet with which a book on the input's network closes under the ring's rulebook.
 fn sheet_text(heap: Global, input: &[u8]) -> Result<String, Halt>
     ensures cleared { IfOk result (λ text. Clears input.now (string_bytes text)) }
     ensures halted { IfErr result (Halts input.now) }

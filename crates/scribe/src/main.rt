@@ -8,18 +8,15 @@ use network::Draft;
 use std::io::{Read, Write};
 use std::{env, fmt};
 
-// What the input gives. If it is refused, says why and ends the program with status 1.
+// What the input gives. If it is refused, says why, and answers the error that ends the program.
 fn accepted<T, E: fmt::Display + Drop>(
     rt: &HostRuntime,
     answer: Result<T, E>,
 ) -> anyhow::Result<T> {
-    match answer {
-        Ok(given) => Ok(given),
-        Err(why) => {
-            rt.println(why)?;
-            Err(anyhow!("{:?}", "the input is refused"))
-        }
-    }
+    answer.or_else(|why| {
+        rt.println(why)?;
+        Err(anyhow!("{:?}", "the input is refused"))
+    })
 }
 
 // From the text on standard input to the file.
