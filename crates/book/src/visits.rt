@@ -36,7 +36,7 @@ fn credit(tallies: &mut [Tally; 32], before: &[u32; 32], after: &[u32; 32], n: u
     requires risen { (j : ℕ) → j < n → slice_index before.now j ≤ slice_index after.now j }
     ensures { Credited tallies.old before.now after.now n tallies.new }
 {
-    // By index: of what an adapter of `iter_mut` lends, as `take`, a proof knows only the length.
+    // By index: three tables are walked side by side, and of what a `zip` over `iter_mut` lends, a proof knows only the length.
     for j in 0..n as usize {
         tallies[j].estate += after[j] - before[j];
     }
