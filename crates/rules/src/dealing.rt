@@ -10,7 +10,7 @@ use crate::standard::Standard;
 
 // Whether p is the higher fraction. By hand: scores are tuples, which have another order of their own.
 pub(crate) fn higher(p: (u32, u32), q: (u32, u32)) -> bool
-    requires { Small p × Small q }
+    requires { (p.0 ≤ 65535) × (p.1 ≤ 65535) × (q.0 ≤ 65535) × (q.1 ≤ 65535) }
     ensures { result ≡ above p q }
 {
     p.0 * q.1 > q.0 * p.1
