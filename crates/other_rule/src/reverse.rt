@@ -24,7 +24,7 @@ fn pay_from_last(estate: u32, claims: &[u32], awards: &mut [u32])
     ensures { awards.new ≡ reverse_priority estate claims.now }
 {
     let mut left = estate;
-    // Numbered and not zipped: of what an adapter of `iter_mut` lends, a proof knows only the length.
+    // By number: of what `rev` of `iter_mut` lends, a proof knows only the length.
     for (k, claim) in claims.iter().enumerate().rev() {
         let award = left.min(*claim);
         awards[k] = award;

@@ -10,4 +10,5 @@ pub mod DualAwards
 pub mod ClassAwards
 pub mod Quota
 pub mod KeptScores
+pub mod Picking
 pub mod Guesses

@@ -7,8 +7,8 @@ use crate::rulebook::check_claims;
 use network::Fault;
 use std::marker::Model;
 
-// At most 32 claims, each of at most 10,000. The awards stay beside it, with their length in the contracts:
-// once a call has written through a `&mut` in a struct, a proof does not know what the caller's slice holds.
+// At most 32 claims, each of at most 10,000. The awards stay beside it, with their length in the contracts: of
+// a `&mut` in a struct, each call would have to ensure that it is the same slice still, which is no shorter.
 #[derive(Drop)]
 pub(crate) struct ClaimList<'a> {
     pub(crate) list: &'a [u32],

@@ -35,7 +35,7 @@ impl ClassTable {
         ensures { result ≡ of_class self.now.classes class claims.now }
     {
         room.copy_from_slice(claims.list);
-        // Numbered and not zipped: of what an adapter of `iter_mut` lends, a proof knows only the length.
+        // Numbered and not zipped: of what a `zip` over `iter_mut` lends, a proof knows only the length.
         for (k, claim) in room.iter_mut().enumerate() {
             if self.classes[k] != class {
                 *claim = 0;

@@ -40,6 +40,7 @@ impl<R: Rulebook> Classes<R> {
         ensures { awards.new ≡ by_class self.now.table.classes (R.Rulebook.awarded self.now.below house) estate claims.now }
     {
         awards.fill(0);
+        // Room in an array: the rules have no heap.
         let mut room = [0; 32];
         let room = &mut room[..claims.list.len()];
         let mut left = estate;

@@ -38,7 +38,7 @@ impl<S: Standard> Contest<'_, S> {
     {
         let mut heads = [(0, 1); 32];
         for (k, units) in held.iter().enumerate() {
-            // By index and not zipped: of what an adapter of `iter_mut` lends, a proof knows only the length.
+            // By index: of what a `zip` over `iter_mut` lends, a proof knows only the length.
             heads[k] = self.score(k, *units);
         }
         heads

@@ -8,9 +8,10 @@ ghost use Rattle.rules.specs.Unit.{First, above, dealt, picked};
 use crate::contest::{Contest, Standing};
 use crate::standard::Standard;
 
-// Whether p is the higher fraction. By hand: scores are tuples, which have another order of their own.
+// Whether p is the higher fraction. By hand: scores are tuples, which have another order of their own. That
+// scores are small stands in the contracts, since a score is a pair of numbers by the form of the standard.
 pub(crate) fn higher(p: (u32, u32), q: (u32, u32)) -> bool
-    requires { Small p × Small q }
+    requires { (p.0 ≤ 65535) × (p.1 ≤ 65535) × (q.0 ≤ 65535) × (q.1 ≤ 65535) }
     ensures { result ≡ above p q }
 {
     p.0 * q.1 > q.0 * p.1
@@ -45,6 +46,8 @@ impl<S: Standard> Contest<'_, S> {
     {
         let n = self.claims.len();
         let mut best = first_short(self.claims, held)?;
+        // From higher score to higher score, and no fold: its closure would have to know that the best so far
+        // is one of the list.
         while let Some(behind) = first_above(&heads[best + 1..n], heads[best]) {
             best += 1 + behind;
         }

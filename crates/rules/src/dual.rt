@@ -33,7 +33,7 @@ fn take_from(claims: &[u32], awards: &mut [u32])
     requires within { (k : ℕ) → slice_index awards.old k ≤ slice_index claims.now k }
     ensures { awards.new ≡ minus claims.now awards.old }
 {
-    // Numbered and not zipped: of what an adapter of `iter_mut` lends, a proof knows only the length.
+    // Numbered and not zipped: of what a `zip` over `iter_mut` lends, a proof knows only the length.
     for (k, award) in awards.iter_mut().enumerate() {
         *award = claims[k] - *award;
     }

@@ -64,6 +64,7 @@ impl<S: Standard> Contest<'_, S> {
         let total = guess.iter().sum();
         let least = self.least_held(guess);
         let greatest = greatest(&heads[..self.claims.len()]);
+        // By `if`: after `then_some` the check leaves a goal.
         if total <= units && higher(least, greatest) {
             Some(total)
         } else {

@@ -5,13 +5,14 @@ ghost use Rattle.rules.specs.Places.{plus};
 use crate::claims::ClaimList;
 use crate::rulebook::Rulebook;
 
-// Adds to each award what stands in its place in `more`.
+// Adds to each award what stands in its place in `more`. (`take_from` of the dual has the same loop. Not one
+// function with a closure: sum and difference each ask for a bound of their own.)
 fn add_to(awards: &mut [u32], more: &[u32])
     requires same { length awards.old ≡ length more.now }
     requires fits { (k : ℕ) → slice_index awards.old k + slice_index more.now k ≤ 10000 }
     ensures { awards.new ≡ plus awards.old more.now }
 {
-    // Numbered and not zipped: of what an adapter of `iter_mut` lends, a proof knows only the length.
+    // Numbered and not zipped: of what a `zip` over `iter_mut` lends, a proof knows only the length.
     for (k, award) in awards.iter_mut().enumerate() {
         *award += more[k];
     }
@@ -37,6 +38,7 @@ pub(crate) fn serve<R: Rulebook>(
     if share == total {
         add_to(awards, part.list);
     } else if share > 0 {
+        // Room in an array: the rules have no heap.
         let mut room = [0; 32];
         let brought = &mut room[..part.list.len()];
         // an admitted part is not refused

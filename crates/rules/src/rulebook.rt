@@ -11,7 +11,8 @@ pub trait Rulebook {
     // The rule of each house: what every creditor is awarded, by estate and claims.
     ghost awarded: { Self → ℕ → Rule };
 
-    // Fills `awards` with one award for each claim.
+    // Fills `awards` with one award for each claim. (Four parameters and no struct: they are the one call that
+    // every rulebook has.)
     fn awards(
         &self,
         house: u8,

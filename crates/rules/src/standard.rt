@@ -38,7 +38,8 @@ pub trait Standard {
     ghost measured: { (s : Self) → Measured (scored s) MAX_NUMERATOR MAX_DENOMINATOR };
 }
 
-// Whether there is nothing to compete for: no such creditor, no such claim, or a claim that is met.
+// Whether there is nothing to compete for: no such creditor, no such claim, or a claim that is met. (Each
+// standard asks this first: what it answers then is its author's one call.)
 pub fn out_of_reach(creditor: u8, claim: u32, held: u32) -> bool
     ensures { result ≡ out_of_reach creditor claim held }
 {
