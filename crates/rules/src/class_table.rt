@@ -31,8 +31,8 @@ impl ClassTable {
         claims: &ClaimList,
         room: &'a mut [u32],
     ) -> ClaimList<'a>
-        requires { length room.now ≡ length claims.now }
-        ensures { result ≡ of_class self.now.classes class claims.now }
+        requires { length room.now ≡ length claims.now.list.now }
+        ensures { result.list.now ≡ of_class self.now.classes class claims.now.list.now }
     {
         room.copy_from_slice(claims.list);
         // Numbered and not zipped: of what a `zip` over `iter_mut` lends, a proof knows only the length.

@@ -36,8 +36,8 @@ impl<R: Rulebook> Classes<R> {
 
     // Serves class after class.
     fn serve_classes(&self, house: u8, estate: u32, claims: &ClaimList, awards: &mut [u32])
-        requires { length awards.old ≡ length claims.now }
-        ensures { awards.new ≡ by_class self.now.table.classes (R.Rulebook.awarded self.now.below house) estate claims.now }
+        requires { length awards.old ≡ length claims.now.list.now }
+        ensures { awards.new ≡ by_class self.now.table.classes (R.Rulebook.awarded self.now.below house) estate claims.now.list.now }
     {
         awards.fill(0);
         // Room in an array: the rules have no heap.

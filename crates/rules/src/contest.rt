@@ -1,16 +1,15 @@
 // A contest for units, and the score of every creditor's next unit.
 ghost use Rattle.std.specs.Prelude.{◌≡◌, ◌<◌, length, slice_index};
-ghost use Rattle.rules.specs.Claims.{Admitted};
 ghost use Rattle.rules.specs.Kept.{Answers, Heads};
 
+use crate::claims::ClaimList;
 use crate::standard::Standard;
 
 // Claims, and the standard by which their creditors compete for units.
 #[derive(Drop)]
 pub(crate) struct Contest<'a, S> {
     pub(crate) standard: &'a S,
-    pub(crate) claims: &'a [u32],
-    ghost admitted: { Admitted claims.now },
+    pub(crate) claims: ClaimList<'a>,
 }
 
 // How many units are handed out, and the score of every creditor's next unit. An array, since the rules have
@@ -24,17 +23,17 @@ pub(crate) struct Standing {
 impl<S: Standard> Contest<'_, S> {
     // The score of a creditor's next unit, where it holds so many.
     pub(crate) fn score(&self, creditor: usize, held: u32) -> (u32, u32)
-        requires { creditor < length self.now.claims.now }
-        ensures { Answers (S.scored self.now.standard.now) creditor (slice_index self.now.claims.now creditor) held result }
+        requires { creditor < length self.now.claims.list.now }
+        ensures { Answers (S.scored self.now.standard.now) creditor (slice_index self.now.claims.list.now creditor) held result }
     {
-        let claim = self.claims[creditor];
+        let claim = self.claims.list[creditor];
         self.standard.score(creditor as u8, claim, held)
     }
 
     // The score of every creditor's next unit.
     pub(crate) fn scores(&self, held: &[u32]) -> [(u32, u32); 32]
-        requires { length held.now ≡ length self.now.claims.now }
-        ensures { Heads (S.scored self.now.standard.now) self.now.claims.now held.now result }
+        requires { length held.now ≡ length self.now.claims.list.now }
+        ensures { Heads (S.scored self.now.standard.now) self.now.claims.list.now held.now result }
     {
         let mut heads = [(0, 1); 32];
         for (k, units) in held.iter().enumerate() {

@@ -40,12 +40,12 @@ impl<S: Standard> Contest<'_, S> {
     // The creditor that the next unit goes to, if any holds less than its claim. Whose claim is met scores 0,
     // so that it is never higher.
     fn pick(&self, held: &[u32], heads: &[(u32, u32)]) -> Option<usize>
-        requires { Heads (S.scored self.now.standard.now) self.now.claims.now held.now heads.now }
-        ensures value { result ≡ picked (S.scored self.now.standard.now) self.now.claims.now held.now (length self.now.claims.now) }
-        ensures first { IfSome result (First (S.scored self.now.standard.now) self.now.claims.now held.now) }
+        requires { Heads (S.scored self.now.standard.now) self.now.claims.list.now held.now heads.now }
+        ensures value { result ≡ picked (S.scored self.now.standard.now) self.now.claims.list.now held.now (length self.now.claims.list.now) }
+        ensures first { IfSome result (First (S.scored self.now.standard.now) self.now.claims.list.now held.now) }
     {
-        let n = self.claims.len();
-        let mut best = first_short(self.claims, held)?;
+        let n = self.claims.list.len();
+        let mut best = first_short(self.claims.list, held)?;
         // From higher score to higher score, and no fold: its closure would have to know that the best so far
         // is one of the list.
         while let Some(behind) = first_above(&heads[best + 1..n], heads[best]) {
@@ -56,9 +56,9 @@ impl<S: Standard> Contest<'_, S> {
 
     // Hands out the units that are left, up to `units`.
     pub(crate) fn deal(&self, mut begun: Standing, units: u32, awards: &mut [u32])
-        requires begun { Underway (S.scored self.now.standard.now) self.now.claims.now begun.units awards.old begun.heads }
+        requires begun { Underway (S.scored self.now.standard.now) self.now.claims.list.now begun.units awards.old begun.heads }
         requires order { begun.units ≤ units }
-        ensures { awards.new ≡ dealt (S.scored self.now.standard.now) self.now.claims.now units }
+        ensures { awards.new ≡ dealt (S.scored self.now.standard.now) self.now.claims.list.now units }
     {
         for _unit in begun.units..units {
             if let Some(j) = self.pick(awards, &begun.heads) {

@@ -35,8 +35,8 @@ fn greatest(heads: &[(u32, u32)]) -> (u32, u32)
 impl<S: Standard> Contest<'_, S> {
     // The least score of a unit held.
     fn least_held(&self, held: &[u32]) -> (u32, u32)
-        requires { length held.now ≡ length self.now.claims.now }
-        ensures { Small result × UnderHeld (S.scored self.now.standard.now) self.now.claims.now held.now (length self.now.claims.now) result }
+        requires { length held.now ≡ length self.now.claims.list.now }
+        ensures { Small result × UnderHeld (S.scored self.now.standard.now) self.now.claims.list.now held.now (length self.now.claims.list.now) result }
     {
         // no score is higher
         let mut least = (65_535, 1);
@@ -54,16 +54,16 @@ impl<S: Standard> Contest<'_, S> {
     // How many units a guess holds, if these are no more than `units` and it is what single steps come to.
     // Whose claim is met wants no unit, and its score of 0 is above none.
     fn check_guess(&self, units: u32, guess: &[u32], heads: &[(u32, u32)]) -> Option<u32>
-        requires scores { Heads (S.scored self.now.standard.now) self.now.claims.now guess.now heads.now }
+        requires scores { Heads (S.scored self.now.standard.now) self.now.claims.list.now guess.now heads.now }
         requires falling { NeverRises (S.scored self.now.standard.now) }
-        ensures { IfSome result (λ n. (n ≤ units) × (guess.now ≡ dealt (S.scored self.now.standard.now) self.now.claims.now n)) }
+        ensures { IfSome result (λ n. (n ≤ units) × (guess.now ≡ dealt (S.scored self.now.standard.now) self.now.claims.list.now n)) }
     {
-        if !within(guess, self.claims) {
+        if !within(guess, self.claims.list) {
             return None;
         }
         let total = guess.iter().sum();
         let least = self.least_held(guess);
-        let greatest = greatest(&heads[..self.claims.len()]);
+        let greatest = greatest(&heads[..self.claims.list.len()]);
         // By `if`: after `then_some` the check leaves a goal.
         if total <= units && higher(least, greatest) {
             Some(total)
@@ -74,13 +74,13 @@ impl<S: Standard> Contest<'_, S> {
 
     // Awards that the creditors hold after some of the units: a guess that passes the check, or nothing.
     pub(crate) fn begin(&self, units: u32, awards: &mut [u32]) -> Standing
-        requires { length awards.old ≡ length self.now.claims.now }
-        ensures begun { Underway (S.scored self.now.standard.now) self.now.claims.now result.units awards.new result.heads }
+        requires { length awards.old ≡ length self.now.claims.list.now }
+        ensures begun { Underway (S.scored self.now.standard.now) self.now.claims.list.now result.units awards.new result.heads }
         ensures order { result.units ≤ units }
     {
         awards.fill(0);
         if self.standard.never_rises() {
-            self.standard.guess(units, self.claims, awards);
+            self.standard.guess(units, self.claims.list, awards);
             let heads = self.scores(awards);
             if let Some(units) = self.check_guess(units, awards, &heads) {
                 return Standing { units, heads };

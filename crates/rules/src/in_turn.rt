@@ -27,10 +27,10 @@ pub(crate) fn serve<R: Rulebook>(
     part: &ClaimList,
     awards: &mut [u32],
 ) -> u32
-    requires same { length awards.old ≡ length part.now }
-    requires fits { (k : ℕ) → slice_index awards.old k + slice_index part.now k ≤ 10000 }
-    ensures rest { result ≡ left - sum part.now }
-    ensures served { awards.new ≡ plus awards.old (R.Rulebook.awarded rulebook.now house (min left (sum part.now)) part.now) }
+    requires same { length awards.old ≡ length part.now.list.now }
+    requires fits { (k : ℕ) → slice_index awards.old k + slice_index part.now.list.now k ≤ 10000 }
+    ensures rest { result ≡ left - sum part.now.list.now }
+    ensures served { awards.new ≡ plus awards.old (R.Rulebook.awarded rulebook.now house (min left (sum part.now.list.now)) part.now.list.now) }
 {
     let total = part.total();
     let share = left.min(total);

@@ -34,8 +34,8 @@ impl<S: Standard> Contest<'_, S> {
     // Divides units that do not meet all claims: from a guess that passes the check or from nothing, and
     // then one at a time.
     fn divide(&self, units: u32, awards: &mut [u32])
-        requires { length awards.old ≡ length self.now.claims.now }
-        ensures { awards.new ≡ dealt (S.scored self.now.standard.now) self.now.claims.now units }
+        requires { length awards.old ≡ length self.now.claims.list.now }
+        ensures { awards.new ≡ dealt (S.scored self.now.standard.now) self.now.claims.list.now units }
     {
         let begun = self.begin(units, awards);
         self.deal(begun, units, awards);
@@ -65,7 +65,7 @@ impl<S: Standard> Rulebook for UnitRule<S> {
         }
         let contest = Contest {
             standard: &self.standard,
-            claims,
+            claims: admitted,
         };
         contest.divide(estate, awards);
         Ok(())

@@ -1,4 +1,4 @@
-use Rattle.std.proofs.Common.{◌≡◌, ℕ, min, List, length, get_or, take, replicate, sum, sym, ap, ◌∙◌, arith}
+use Rattle.std.proofs.Common.{◌≡◌, ℕ, min, List, length, take, replicate, sum, sym, ap, ◌∙◌, arith}
 use Rattle.std.proofs.lemmas.List.{length-take, length-replicate}
 use Rattle.rules.specs.Claims.{Admitted}
 use Rattle.rules.specs.Places.{plus}
@@ -15,24 +15,20 @@ pub add_to-requires-then-share-gt0-clause-fits : goal.add_to-requires-then-share
 add_to-requires-then-share-gt0-clause-fits g c =
     let f = g.R.Rulebook.awarded c.args.rulebook.now c.args.house in
     let laws = g.met.R.Rulebook.lawful c.args.rulebook.now c.args.house in
-    let cs : List ℕ = c.part.inside.list.now in
-    let given : cs ≡ c.args.part.now = c.part.view_is in
-    let long = ap length given in
+    let cs : List ℕ = c.args.part.now.list.now in
     let e : ℕ = c.min-share.result in
-    let is : c.awards.new.awards ≡ f e cs = filled cs _ c.awards.result _ _ _ c.part.invariant (room cs c.part.invariant) c.awards.ensures in
-    λ k. rw is (omega (arith, laws.within e cs c.part.invariant k, c.requires.fits k, ap (λ xs. get_or xs k 0) given))
+    let is : c.awards.new.awards ≡ f e cs = filled cs _ c.awards.result _ _ _ c.args.part.now.admitted (room cs c.args.part.now.admitted) c.awards.ensures in
+    λ k. rw is (omega (arith, laws.within e cs c.args.part.now.admitted k, c.requires.fits k))
 
 pub returns-clause-served : goal.returns-clause-served
 returns-clause-served g c =
     let f = g.R.Rulebook.awarded c.args.rulebook.now c.args.house in
     let laws = g.met.R.Rulebook.lawful c.args.rulebook.now c.args.house in
-    let cs : List ℕ = c.part.inside.list.now in
-    let given : cs ≡ c.args.part.now = c.part.view_is in
-    let long = ap length given in
-    let ok = c.part.invariant in
+    let cs : List ℕ = c.args.part.now.list.now in
+    let ok = c.args.part.now.admitted in
     let e : ℕ = c.min-share.result in
     let now : List ℕ = c.args.awards.now in
-    let total : c.total-total.result ≡ sum cs = c.total-total.ensures ∙ sym (ap sum given) in
+    let total : c.total-total.result ≡ sum cs = c.total-total.ensures in
     let worth : e ≡ min c.args.left (sum cs) = c.min-share.ensures ∙ ap (min c.args.left) total in
     let served : c.if-share-total.awards ≡ plus now (f e cs) =
     elim c.if-share-total.branch [
@@ -45,4 +41,4 @@ returns-clause-served g c =
           let none : e ≡ 0 = omega (arith, w.if-share-gt0.false) in
           w.awards-is ∙ nothing_served f laws cs now ok (omega arith) ∙ sym (ap (λ x. plus now (f x cs)) none)
     ] in
-    served ∙ ap (λ x. plus now (f x cs)) worth ∙ ap (λ xs. plus now (f (min c.args.left (sum xs)) xs)) given
+    served ∙ ap (λ x. plus now (f x cs)) worth

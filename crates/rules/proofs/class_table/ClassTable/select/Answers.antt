@@ -1,6 +1,5 @@
-use Rattle.std.proofs.Common.{◌≡◌, ℕ, ◌<◌, ◌≤◌, List, length, get_or, subst, arith}
+use Rattle.std.proofs.Common.{◌≡◌, ℕ, ◌<◌, ◌≤◌, List, length, get_or, arith}
 use Rattle.std.proofs.lemmas.List.FromFn.{fill_by_all}
-use Rattle.rules.specs.Claims.{Admitted}
 use Rattle.rules.specs.Classes.{class_claim, of_class}
 use Rattle.rules.proofs.ClassAwards.{class_admitted}
 use Rattle.rules.proofs.class_table.ClassTable.select.Goals as goal
@@ -11,10 +10,10 @@ filled ts cs out t n long past each = fill_by_all (class_claim ts t cs) out _ 0 
 pub invariant_of-result : goal.invariant_of-result
 invariant_of-result c =
     let ts : List ℕ = c.args.self.now.classes in
-    let cs : List ℕ = c.args.claims.now in
+    let cs : List ℕ = c.args.claims.now.list.now in
     rw (filled ts cs c.loop-k.room c.args.class c.loop-k.k (omega arith) (omega arith) c.loop-k.invariant.0)
-    (class_admitted ts c.args.class cs (subst Admitted c.claims.view_is c.claims.invariant))
+    (record { admitted = class_admitted ts c.args.class cs c.args.claims.now.admitted })
 
 pub returns : goal.returns
 returns c =
-    filled c.args.self.now.classes c.args.claims.now c.loop-k.room c.args.class c.loop-k.k (omega arith) (omega arith) c.loop-k.invariant.0
+    filled c.args.self.now.classes c.args.claims.now.list.now c.loop-k.room c.args.class c.loop-k.k (omega arith) (omega arith) c.loop-k.invariant.0

@@ -1,4 +1,4 @@
-use Rattle.std.proofs.Common.{ℕ, ◌<◌, List, subst, arith}
+use Rattle.std.proofs.Common.{ℕ, ◌<◌, List, arith}
 use Rattle.rules.specs.Claims.{Admitted}
 use Rattle.rules.specs.Classes.{class_part}
 use Rattle.rules.specs.ClassLaws.{length_of_class, class_splits}
@@ -10,8 +10,8 @@ serve-left-requires g c =
     let s = c.args.self.now in
     let f = g.R.Rulebook.awarded s.below c.args.house in
     let splits = class_splits s.table.classes f s.table.low (g.met.R.Rulebook.lawful s.below c.args.house) in
-    let cs : List ℕ = c.args.claims.now in
-    let ok : Admitted cs = subst Admitted c.claims.view_is c.claims.invariant in
+    let cs : List ℕ = c.args.claims.now.list.now in
+    let ok : Admitted cs = c.args.claims.now.admitted in
     let t : ℕ = c.loop-class.class in
     let lt : t < 8 = omega arith in
     let size = length_of_class s.table.classes t cs in

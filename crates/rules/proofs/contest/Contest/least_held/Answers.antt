@@ -5,7 +5,7 @@ use Rattle.rules.proofs.contest.Contest.least_held.Goals.{then-units-gt0+then-hi
 pub loop-k-preserved : goal.loop-k-preserved
 loop-k-preserved g c =
     let f = g.S.Standard.scored c.args.self.now.standard.now in
-    let cs = c.args.self.now.claims.now in
+    let cs = c.args.self.now.claims.list.now in
     let hs = c.args.held.now in
     let before = c.loop-k.invariant in
     elim c.if-units-gt0.branch [

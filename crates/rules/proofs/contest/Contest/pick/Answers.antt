@@ -19,7 +19,7 @@ loop-behind-preserved g c = scan_goes _ _ _ _ c.requires _ _ c.loop-behind.invar
 pub returns : goal.returns
 returns g c =
     let f = g.S.Standard.scored c.args.self.now.standard.now in
-    let cs = c.args.self.now.claims.now in
+    let cs = c.args.self.now.claims.list.now in
     let hs = c.args.held.now in
     let positive = (g.met.S.Standard.measured c.args.self.now.standard.now).positive in
     let is = scan_ends f cs hs c.args.heads.now c.requires c.loop-behind.best c.loop-behind.invariant c.in_default.ensures in

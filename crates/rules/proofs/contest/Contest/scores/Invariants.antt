@@ -4,4 +4,4 @@ use Rattle.rules.proofs.contest.Contest.scores.Given as goal
 
 abbrev pub invariant-loop-k : goal.invariant-loop-k
 invariant-loop-k g l = (length l.heads ≡ 32) ×
-    ((j : ℕ) → j < l.k → Answers (g.S.Standard.scored l.self.standard.now) j (get_or l.self.claims.now j 0) (get_or l.held j 0) (head l.heads j))
+    ((j : ℕ) → j < l.k → Answers (g.S.Standard.scored l.self.standard.now) j (get_or l.self.claims.list.now j 0) (get_or l.held j 0) (head l.heads j))
