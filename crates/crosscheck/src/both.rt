@@ -2,14 +2,21 @@
 use crate::engine::draft_of;
 use crate::tally::Tally;
 use network::Draft;
-use second::{Halt, Ledger, Network, Payments, Request, Sheet, read};
+use second::{Halt, Ledger, Network, Payments, Request, read, sheet_text};
 use std::alloc::{AllocError, Global};
 
-// The network of a file; a file that is none to both sides counts as a difference.
+// A want of memory apart from what else halts the second implementation.
+pub fn answered<T: Drop>(answer: Result<T, Halt>) -> Result<Result<T, Halt>, AllocError> {
+    match answer {
+        Err(Halt::NoMemory(error)) => Err(error),
+        answer => Ok(answer),
+    }
+}
+
+// The network of a file; a file that is not one to both sides counts as a difference.
 pub fn read_both(tally: &mut Tally, file: &[u8]) -> Result<Option<(Network, Draft)>, AllocError> {
-    match (read(tally.heap, file), draft_of(file)) {
+    match (read(file), draft_of(file)) {
         (Ok(network), Some(draft)) => Ok(Some((network, draft))),
-        (Err(Halt::NoMemory(error)), _) => Err(error),
         _ => {
             tally.compare(file, "not a network to both sides", "")?;
             Ok(None)
@@ -21,7 +28,7 @@ pub fn read_both(tally: &mut Tally, file: &[u8]) -> Result<Option<(Network, Draf
 #[derive(Drop)]
 pub struct Life<'a> {
     network: &'a Network,
-    ledger: Ledger<'a>,
+    ledger: Ledger,
     text: String,
 }
 
@@ -42,6 +49,7 @@ impl<'a> Life<'a> {
     // The requests with their answers and the sheet, which has the ledger's payments or those that are given.
     pub fn close(
         self,
+        heap: Global,
         queues: &[Vec<u8>],
         payments: Option<Payments>,
     ) -> Result<String, AllocError> {
@@ -52,8 +60,8 @@ impl<'a> Life<'a> {
         } = self;
         let account = ledger.close(queues);
         let payments = payments.unwrap_or(ledger.payments);
-        let sheet = Sheet::new(network, &payments, account);
-        write!(text, "{sheet}")?;
+        let sheet = sheet_text(heap, network, &payments, account)?;
+        text.push_str(sheet.as_str())?;
         Ok(text)
     }
 }

@@ -66,7 +66,7 @@ pub fn compare_picked(tally: &mut Tally, cases: &[Case]) -> Result<(), AllocErro
     Ok(())
 }
 
-// The engine on each case of which it is settled what it is to print.
+// The engine on each case for which it is settled what clear prints.
 pub fn compare_settled_cases(tally: &mut Tally, cases: &[Case]) -> Result<(), AllocError> {
     for case in cases.iter().filter(|case| !case.settled.is_empty()) {
         let file = case.file.as_slice();

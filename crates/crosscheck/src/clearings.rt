@@ -1,17 +1,17 @@
 // What the engine reports of a file, and what the second implementation does.
+use crate::both::answered;
 use crate::damage::damaged;
 use crate::dice::Dice;
 use crate::engine::clearing_text;
 use crate::shapes::{Scale, each_network};
 use crate::tally::Tally;
-use second::{Halt, clear};
+use second::clear;
 use std::alloc::{AllocError, Global};
 
 // The text that clear is to print, and the status that it is to end with.
 fn expected_text(heap: Global, file: &[u8]) -> Result<String, AllocError> {
-    match clear(heap, file) {
+    match answered(clear(heap, file))? {
         Ok(text) => format!(in heap; "{text}status 0\n"),
-        Err(Halt::NoMemory(error)) => Err(error),
         Err(halt) => format!(in heap; "{halt}\nstatus 1\n"),
     }
 }
@@ -41,14 +41,6 @@ pub fn compare_networks(dice: &mut Dice, tally: &mut Tally, count: u32) -> Resul
     })
 }
 
-fn small_scale(dice: &mut Dice) -> Scale {
-    Scale {
-        n: dice.byte(1, 5),
-        richest: 30,
-        largest: 20,
-    }
-}
-
 // A file damaged in ten ways.
 fn compare_ten(dice: &mut Dice, tally: &mut Tally, file: &[u8]) -> Result<(), AllocError> {
     for _way in 0..10u32 {
@@ -60,7 +52,12 @@ fn compare_ten(dice: &mut Dice, tally: &mut Tally, file: &[u8]) -> Result<(), Al
 
 // Small files, each damaged in ten ways.
 pub fn compare_damaged(dice: &mut Dice, tally: &mut Tally, count: u32) -> Result<(), AllocError> {
-    each_network(tally.heap, dice, count / 10, small_scale, |dice, file| {
+    let scale = |dice: &mut Dice| Scale {
+        n: dice.byte(1, 5),
+        richest: 30,
+        largest: 20,
+    };
+    each_network(tally.heap, dice, count / 10, scale, |dice, file| {
         compare_ten(dice, tally, file)
     })
 }

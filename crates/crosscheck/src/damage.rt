@@ -1,5 +1,6 @@
 // Damaged files.
 use crate::dice::Dice;
+use netfile::BODY_LENGTHS;
 use std::alloc::{AllocError, Global};
 use std::ops::Range;
 
@@ -29,13 +30,8 @@ fn records_of(heap: Global, file: &[u8]) -> Result<Vec<Range<usize>>, AllocError
     let mut next = 0usize;
     for (at, kind) in file.iter().enumerate() {
         if at == next {
-            let length = match kind {
-                1 => 2,
-                2 => 8,
-                3 => 7,
-                _ => 1,
-            };
-            next = at.saturating_add(length);
+            let body = BODY_LENGTHS.get(usize::from(*kind)).copied().unwrap_or(0);
+            next = at.saturating_add(1).saturating_add(body);
             records.push(at..next)?;
         }
     }

@@ -1,10 +1,10 @@
 // Divisions of an estate, straight by the rulebooks.
-use crate::both::read_both;
+use crate::both::{answered, read_both};
 use crate::dice::Dice;
 use crate::shapes::{Scale, random_network};
 use crate::tally::Tally;
 use rules::{RingRulebook, Rulebook, ring_rulebook};
-use second::{Halt, Rules, awards};
+use second::{Rules, awards};
 use std::alloc::{AllocError, Global};
 use std::fmt;
 
@@ -100,10 +100,7 @@ impl Division {
         let claims = self.claims.as_slice();
         let rule = Rules::Ring.of_house(self.house);
         self.text(heap, |buffer| {
-            match awards(heap, rule, classes, self.estate, claims, buffer) {
-                Err(Halt::NoMemory(error)) => Err(error),
-                answer => Ok(answer),
-            }
+            answered(awards(heap, rule, classes, self.estate, claims, buffer))
         })
     }
 }

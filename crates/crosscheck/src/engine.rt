@@ -21,7 +21,7 @@ pub fn report_text(heap: Global, file: &[u8]) -> Result<String, AllocError> {
 pub fn clearing_text(heap: Global, file: &[u8]) -> Result<String, AllocError> {
     let report = report::clear(heap, file)?;
     let text = report.text.as_str();
-    let status = if report.cleared { 0 } else { 1 };
+    let status = u8::from(!report.cleared);
     format!(in heap; "{text}status {status}\n")
 }
 

@@ -5,7 +5,7 @@ use crate::engine::{draft_of, life_text, settlement_text};
 use crate::requests::{random_requests, tasks_of};
 use crate::shapes::{Scale, each_network};
 use crate::tally::Tally;
-use book::work_both;
+use book::{Sheet, Task, work_both};
 use rules::ring_rulebook;
 use second::{Network, Request, Rules, least_payments};
 use std::alloc::{AllocError, Global};
@@ -24,7 +24,21 @@ fn expected_text(
         life.perform(queues, *request)?;
     }
     let least = least_payments(network, queues);
-    life.close(queues, Some(least))
+    life.close(heap, queues, Some(least))
+}
+
+// A life with both sides.
+fn compare_life(
+    tally: &mut Tally,
+    file: &[u8],
+    network: &Network,
+    requests: &[Request],
+    tasks: &[Task],
+    sheet: &Sheet,
+) -> Result<(), AllocError> {
+    let text = life_text(tally.heap, tasks, sheet)?;
+    let expected = expected_text(tally.heap, network, requests)?;
+    tally.compare(file, text.as_str(), expected.as_str())
 }
 
 // Two lives on one network: each with the second implementation, and their settlements with each other.
@@ -46,27 +60,22 @@ fn compare_on(dice: &mut Dice, tally: &mut Tally, file: &[u8]) -> Result<(), All
         tasks.as_mut_slice(),
         other_tasks.as_mut_slice(),
     );
-    let text = life_text(heap, tasks.as_slice(), &sheet)?;
-    let expected = expected_text(heap, &network, requests.as_slice())?;
-    tally.compare(file, text.as_str(), expected.as_str())?;
-    let text = life_text(heap, other_tasks.as_slice(), &other_sheet)?;
-    let expected = expected_text(heap, &network, others.as_slice())?;
-    tally.compare(file, text.as_str(), expected.as_str())?;
+    let (requests, tasks) = (requests.as_slice(), tasks.as_slice());
+    compare_life(tally, file, &network, requests, tasks, &sheet)?;
+    let (requests, tasks) = (others.as_slice(), other_tasks.as_slice());
+    compare_life(tally, file, &network, requests, tasks, &other_sheet)?;
     let settlement = settlement_text(heap, sheet)?;
     let other = settlement_text(heap, other_sheet)?;
     tally.compare(file, settlement.as_str(), other.as_str())
 }
 
-fn small_scale(dice: &mut Dice) -> Scale {
-    Scale {
+pub fn compare_lives(dice: &mut Dice, tally: &mut Tally, count: u32) -> Result<(), AllocError> {
+    let scale = |dice: &mut Dice| Scale {
         n: dice.byte(1, 8),
         richest: 40,
         largest: 20,
-    }
-}
-
-pub fn compare_lives(dice: &mut Dice, tally: &mut Tally, count: u32) -> Result<(), AllocError> {
-    each_network(tally.heap, dice, count, small_scale, |dice, file| {
+    };
+    each_network(tally.heap, dice, count, scale, |dice, file| {
         compare_on(dice, tally, file)
     })
 }

@@ -28,15 +28,16 @@ use crate::lives::compare_lives;
 use crate::rulebooks::compare_changing;
 use crate::settled::compare_settled;
 use crate::tally::Tally;
+use network::Cause;
 use std::alloc::AllocError;
 use std::process::ExitCode;
 
-// Compares cases of one kind and prints what came of them; these faults are counted where something differs. Answers
-// whether nothing does.
+// Compares cases of one kind and prints what came of them; where something differs, it prints how often each of these
+// faults came up. Answers whether nothing differs.
 fn compare<F: FnOnce(&mut Tally) -> Result<(), AllocError>>(
     rt: &(impl Print + AllocGlobal),
     name: &str,
-    faults: &[usize],
+    faults: &[Cause],
     run: F,
 ) -> anyhow::Result<bool>
     requires { F.IsAlwaysCallable run }
@@ -47,11 +48,27 @@ fn compare<F: FnOnce(&mut Tally) -> Result<(), AllocError>>(
     Ok(tally.agrees())
 }
 
-const READING: [usize; 10] = [1, 2, 3, 4, 5, 6, 12, 13, 14, 15];
+const READING: [Cause; 10] = [
+    Cause::MemberCount,
+    Cause::NoSuchMember,
+    Cause::ClassTooHigh,
+    Cause::EndowmentTooLarge,
+    Cause::ClaimOnItself,
+    Cause::ClaimTooLarge,
+    Cause::EndOfFile,
+    Cause::UnknownKind,
+    Cause::NotDue,
+    Cause::ClaimOrder,
+];
 
-const WORKING: [usize; 4] = [2, 7, 8, 9];
+const WORKING: [Cause; 4] = [
+    Cause::NoSuchMember,
+    Cause::NoUnits,
+    Cause::Receded,
+    Cause::AboveDue,
+];
 
-const DIVIDING: [usize; 2] = [10, 11];
+const DIVIDING: [Cause; 2] = [Cause::ListLength, Cause::ListedClaimTooLarge];
 
 fn main(rt: HostRuntime) -> anyhow::Result<ExitCode> {
     let cases = read_cases(&rt)?;

@@ -5,14 +5,14 @@ use std::collections::BTreeMap;
 // How often each fault came up, by its number.
 #[derive(Drop)]
 pub struct Refusals {
-    times: BTreeMap<usize, u32>,
+    times: BTreeMap<u8, u32>,
 }
 
 // The number of the fault that a line is, or that the call in it is answered by.
-fn fault_of(line: &str) -> Option<usize> {
+fn fault_of(line: &str) -> Option<u8> {
     let answer = line.split_once(": ").map_or(line, |(_, answer)| answer);
     let (number, _) = answer.strip_prefix("fault ")?.split_once(' ')?;
-    number.parse::<usize>().ok()
+    number.parse::<u8>().ok()
 }
 
 impl Refusals {
@@ -31,7 +31,7 @@ impl Refusals {
         Ok(())
     }
 
-    pub fn times(&self, fault: usize) -> u32 {
+    pub fn times(&self, fault: u8) -> u32 {
         self.times.get(&fault).copied().unwrap_or(0)
     }
 }

@@ -102,7 +102,7 @@ fn expected_text(heap: Global, network: &Network, steps: &[Step]) -> Result<Stri
         life.perform(queues.as_slice(), step.request)?;
     }
     let queues = Rules::Ring.queues(heap, network)?;
-    life.close(queues.as_slice(), None)
+    life.close(heap, queues.as_slice(), None)
 }
 
 fn compare_on(dice: &mut Dice, tally: &mut Tally, file: &[u8]) -> Result<(), AllocError> {
@@ -116,16 +116,13 @@ fn compare_on(dice: &mut Dice, tally: &mut Tally, file: &[u8]) -> Result<(), All
     tally.compare(file, text.as_str(), expected.as_str())
 }
 
-fn small_scale(dice: &mut Dice) -> Scale {
-    Scale {
+pub fn compare_changing(dice: &mut Dice, tally: &mut Tally, count: u32) -> Result<(), AllocError> {
+    let scale = |dice: &mut Dice| Scale {
         n: dice.byte(2, 6),
         richest: 15,
         largest: 8,
-    }
-}
-
-pub fn compare_changing(dice: &mut Dice, tally: &mut Tally, count: u32) -> Result<(), AllocError> {
-    each_network(tally.heap, dice, count, small_scale, |dice, file| {
+    };
+    each_network(tally.heap, dice, count, scale, |dice, file| {
         compare_on(dice, tally, file)
     })
 }

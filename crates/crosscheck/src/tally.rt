@@ -1,5 +1,6 @@
 // Counting what was compared, and keeping the first difference.
 use crate::refusals::Refusals;
+use network::Cause;
 use std::alloc::{AllocError, Global};
 use std::fmt;
 
@@ -72,13 +73,14 @@ impl Tally {
     }
 
     // Prints the count, and if something differs the first difference and how often each of these faults came up.
-    pub fn print(&self, rt: &impl Print, name: &str, faults: &[usize]) -> anyhow::Result<()> {
+    pub fn print(&self, rt: &impl Print, name: &str, faults: &[Cause]) -> anyhow::Result<()> {
         println!(rt; "{name}: {self}")?;
         if let Some(first) = &self.first {
             println!(rt; "the first that differs: {first}")?;
             for fault in faults {
-                let times = self.refusals.times(*fault);
-                println!(rt; "  refused by fault {fault}: {times}")?;
+                let number = fault.number();
+                let times = self.refusals.times(number);
+                println!(rt; "  refused by fault {number}: {times}")?;
             }
         }
         Ok(())

@@ -3,7 +3,7 @@ use crate::flow::{account_of_closing, least_payments};
 use crate::halt::Halt;
 use crate::queue::Rules;
 use crate::reading::read;
-use crate::statement::Sheet;
+use crate::statement::sheet_text;
 use std::alloc::Global;
 
 const LONGEST_FILE: usize = 65_536;
@@ -13,10 +13,10 @@ pub fn clear(heap: Global, input: &[u8]) -> Result<String, Halt> {
     if input.len() > LONGEST_FILE {
         return Err(Halt::TooLong);
     }
-    let network = read(heap, input)?;
+    let network = read(input)?;
     let queues = Rules::Ring.queues(heap, &network)?;
     let queues = queues.as_slice();
     let payments = least_payments(&network, queues);
     let account = account_of_closing(&network, queues);
-    Ok(Sheet::new(&network, &payments, account).to_string(heap)?)
+    Ok(sheet_text(heap, &network, &payments, account)?)
 }

@@ -23,7 +23,7 @@ struct Flow {
 impl Flow {
     fn start(network: &Network) -> Flow {
         let mut flow = Flow::default();
-        for (purse, member) in flow.purses.iter_mut().zip(network.members.iter()) {
+        for (purse, member) in flow.purses.iter_mut().zip(network.members()) {
             purse.estate = member.endowment;
         }
         flow
@@ -45,12 +45,11 @@ impl Flow {
     fn pay_on(&mut self, member: usize, queue: &[u8], estate: u32) -> usize {
         let spent = self.spend(member, estate);
         let units = queue.get(spent as usize..).unwrap_or_default();
-        let mut moved = 0usize;
-        for creditor in units.iter().take(estate.saturating_sub(spent) as usize) {
+        let moved = units.len().min(estate.saturating_sub(spent) as usize);
+        for creditor in units.iter().take(moved) {
             if let Some(purse) = self.purses.get_mut(usize::from(*creditor)) {
                 purse.estate = purse.estate.saturating_add(1);
             }
-            moved = moved.saturating_add(1);
         }
         moved
     }

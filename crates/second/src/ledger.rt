@@ -10,21 +10,21 @@ use crate::statement::Account;
 
 // The payments so far in a network. The queues by which it is worked may differ from request to request.
 #[derive(Clone, Copy)]
-pub struct Ledger<'a> {
-    network: &'a Network,
+pub struct Ledger {
+    network: Network,
     pub payments: Payments,
 }
 
-impl<'a> Ledger<'a> {
-    pub fn open(network: &'a Network) -> Ledger<'a> {
+impl Ledger {
+    pub fn open(network: &Network) -> Ledger {
         Ledger {
-            network,
+            network: *network,
             payments: Payments::default(),
         }
     }
 
-    fn member(&self, number: usize) -> Result<&'a Member, Cause> {
-        let members = self.network.members.as_slice();
+    fn member(&self, number: usize) -> Result<&Member, Cause> {
+        let members = self.network.members();
         members.get(number).ok_or(Cause::NoSuchMember)
     }
 
@@ -46,9 +46,14 @@ impl<'a> Ledger<'a> {
             .ok_or(Cause::NoSuchMember)
     }
 
+    // Nothing is due from a member without a queue.
     fn due_row(&self, queues: &[Vec<u8>], debtor: usize) -> Result<Row, Cause> {
-        let queue = queues.get(debtor).ok_or(Cause::NoSuchMember)?;
-        Ok(front(queue.as_slice(), self.estate(debtor)?))
+        let estate = self.estate(debtor)?;
+        Ok(
+            queues
+                .get(debtor)
+                .map_or(Row::default(), |queue| front(queue.as_slice(), estate)),
+        )
     }
 
     // What is due from a debtor that has not receded, and the units that it has not paid of it yet.
@@ -91,7 +96,7 @@ impl<'a> Ledger<'a> {
 
     fn round(&mut self, queues: &[Vec<u8>]) -> Round {
         let mut round = Round::default();
-        for member in 0..self.network.members.len() {
+        for member in 0..self.network.members().len() {
             match self.settle(queues, member) {
                 Ok(units) => round.moved = round.moved.saturating_add(units as usize),
                 Err(_) => round.passed_over = round.passed_over.saturating_add(1),
@@ -117,7 +122,7 @@ impl<'a> Ledger<'a> {
 
     // The first member whose settle would be accepted and move a unit.
     fn next(&self, queues: &[Vec<u8>]) -> Option<usize> {
-        (0..self.network.members.len()).find(|member| {
+        (0..self.network.members().len()).find(|member| {
             self.open_row(queues, *member)
                 .is_ok_and(|(_, units)| units > 0)
         })

@@ -33,4 +33,4 @@ pub use reading::read;
 pub use refusal::{Named, Refusal};
 pub use request::{Answer, Request, Round};
 pub use row::Row;
-pub use statement::{Account, Sheet};
+pub use statement::{Account, sheet_text};

@@ -1,9 +1,8 @@
 // A network as it stands in a file.
 use crate::row::Row;
-use std::alloc::Global;
 
 // A member, with the claims on it.
-#[derive(Clone, Copy)]
+#[derive(Clone, Copy, Default)]
 pub struct Member {
     pub house: u8,
     pub class: u8,
@@ -11,22 +10,38 @@ pub struct Member {
     pub claims: Row,
 }
 
-#[derive(Drop)]
+// How many members there are, and what is entered of them. The members stand in an array and in no Vec, so that reading
+// a network cannot run out of memory.
+#[derive(Clone, Copy, Default)]
 pub struct Network {
-    pub members: Vec<Member>,
+    pub count: usize,
+    members: [Member; 32],
 }
 
 impl Network {
-    pub(crate) fn new(heap: Global) -> Network {
-        Network {
-            members: Vec::new(heap),
+    pub fn members(&self) -> &[Member] {
+        &self.members[..self.count.min(32)]
+    }
+
+    // Adds a member behind the last one; a 33rd member is lost.
+    pub(crate) fn add_member(&mut self, member: Member) {
+        if let Some(place) = self.members.get_mut(self.count) {
+            *place = member;
+            self.count = self.count.saturating_add(1);
+        }
+    }
+
+    // A claim on a debtor that there is no place for is lost.
+    pub(crate) fn put_claim(&mut self, debtor: usize, creditor: usize, units: u32) {
+        if let Some(member) = self.members.get_mut(debtor) {
+            member.claims.put(creditor, units);
         }
     }
 
     // The class of each member, and 0 past them.
     pub fn classes(&self) -> [u8; 32] {
         let mut classes = [0; 32];
-        for (class, member) in classes.iter_mut().zip(self.members.iter()) {
+        for (class, member) in classes.iter_mut().zip(self.members()) {
             *class = member.class;
         }
         classes
@@ -34,7 +49,7 @@ impl Network {
 
     // All claims together.
     pub fn units_of_claims(&self) -> u32 {
-        self.members
+        self.members()
             .iter()
             .map(|member| member.claims.total())
             .fold(0, u32::saturating_add)

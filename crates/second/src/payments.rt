@@ -1,11 +1,11 @@
 // Payments from each debtor to each creditor.
 use crate::row::Row;
 
-// A row for each debtor; past the last debtor they are empty. Of a fixed width, so that a ledger is opened, and the
-// least payments are found, without a want of memory.
+// A row for each debtor; past the last debtor they are empty. Of a fixed width, so that opening a ledger and finding the
+// least payments cannot run out of memory.
 #[derive(Clone, Copy, Default)]
 pub struct Payments {
-    pub(crate) rows: [Row; 32],
+    pub rows: [Row; 32],
 }
 
 impl Payments {

@@ -40,7 +40,7 @@ impl Rules {
     pub fn queues(self, heap: Global, network: &Network) -> Result<Vec<Vec<u8>>, AllocError> {
         let classes = network.classes();
         network
-            .members
+            .members()
             .iter()
             .map(|member| {
                 let rule = self.of_house(member.house);

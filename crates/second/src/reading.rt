@@ -1,10 +1,8 @@
 // Reading a network file byte by byte.
 use crate::cause::Cause;
-use crate::halt::Halt;
 use crate::network::{Member, Network};
 use crate::refusal::{Named, Refusal};
 use crate::row::Row;
-use std::alloc::Global;
 
 #[derive(Clone, Copy)]
 enum Kind {
@@ -54,69 +52,87 @@ impl Due {
     }
 }
 
-// The record that is being read: its kind and its first byte.
+// The record that is being read: its kind, its first byte, and its body so far. The body stands in an array and in no
+// Vec, so that reading cannot run out of memory.
 #[derive(Clone, Copy)]
 struct Record {
     kind: Kind,
     byte: usize,
+    body: [u8; 7],
+    length: usize,
 }
 
 impl Record {
-    fn in_file(self, cause: Cause) -> Halt {
-        let byte = self.byte;
-        Halt::Refused(Refusal::File { cause, byte })
+    fn new(kind: Kind, byte: usize) -> Record {
+        Record {
+            kind,
+            byte,
+            body: [0; 7],
+            length: 0,
+        }
     }
 
-    fn in_draft(self, cause: Cause, named: Named) -> Halt {
+    fn body(&self) -> &[u8] {
+        &self.body[..self.length.min(7)]
+    }
+
+    // The record with one more byte of its body.
+    fn with(mut self, value: u8) -> Record {
+        let length = self.length;
+        if let Some(place) = self.body.get_mut(length) {
+            *place = value;
+            self.length = length.saturating_add(1);
+        }
+        self
+    }
+
+    fn in_file(&self, cause: Cause) -> Refusal {
         let byte = self.byte;
-        Halt::Refused(Refusal::Draft { cause, byte, named })
+        Refusal::File { cause, byte }
+    }
+
+    fn in_draft(&self, cause: Cause, named: Named) -> Refusal {
+        let byte = self.byte;
+        Refusal::Draft { cause, byte, named }
     }
 }
 
-// The network as far as it is read, the claim that was read last, and the record that is being read, with its body so
-// far.
-#[derive(Drop)]
+// The network as far as it is read, the claim that was read last, and the record that is being read.
+#[derive(Clone, Copy)]
 struct Reader {
     network: Network,
     due: Due,
     last: Option<(u8, u8)>,
     record: Option<Record>,
-    body: Vec<u8>,
 }
 
 impl Reader {
-    fn start(heap: Global) -> Reader {
+    fn start() -> Reader {
         Reader {
-            network: Network::new(heap),
+            network: Network::default(),
             due: Due::Network,
             last: None,
             record: None,
-            body: Vec::new(heap),
         }
     }
 
     // A record begins with its kind.
-    fn take(&mut self, byte: usize, value: u8) -> Result<(), Halt> {
+    fn take(&mut self, byte: usize, value: u8) -> Result<(), Refusal> {
         let record = match self.record {
-            Some(record) => {
-                self.body.push(value)?;
-                record
-            }
+            Some(record) => record.with(value),
             None => {
                 let kind = self.due.kind_of(value);
                 let kind = kind.map_err(|cause| Refusal::File { cause, byte })?;
-                self.body.clear();
-                Record { kind, byte }
+                Record::new(kind, byte)
             }
         };
-        let is_whole = self.end(record)?;
-        self.record = if is_whole { None } else { Some(record) };
+        self.record = (!self.end(&record)?).then_some(record);
         Ok(())
     }
 
     // Takes what a record says once its body is whole. Answers whether it is.
-    fn end(&mut self, record: Record) -> Result<bool, Halt> {
-        match (record.kind, self.body.as_slice()) {
+    fn end(&mut self, record: &Record) -> Result<bool, Refusal> {
+        match (record.kind, record.body()) {
             (Kind::Network, &[count]) => self.end_network(record, count)?,
             (Kind::Member, &[given, house, class, a, b, c, d]) => {
                 let member = Member {
@@ -137,7 +153,7 @@ impl Reader {
         Ok(true)
     }
 
-    fn end_network(&mut self, record: Record, count: u8) -> Result<(), Halt> {
+    fn end_network(&mut self, record: &Record, count: u8) -> Result<(), Refusal> {
         if !(1..=32u8).contains(&count) {
             return Err(record.in_draft(Cause::MemberCount, Named::Nobody));
         }
@@ -145,8 +161,8 @@ impl Reader {
         Ok(())
     }
 
-    fn end_member(&mut self, record: Record, given: u8, member: Member) -> Result<(), Halt> {
-        if usize::from(given) != self.network.members.len() {
+    fn end_member(&mut self, record: &Record, given: u8, member: Member) -> Result<(), Refusal> {
+        if usize::from(given) != self.network.count {
             return Err(record.in_file(Cause::NotDue));
         }
         if member.class > 7 {
@@ -155,7 +171,7 @@ impl Reader {
         if member.endowment > 1_000_000 {
             return Err(record.in_draft(Cause::EndowmentTooLarge, Named::Debtor(given)));
         }
-        self.network.members.push(member)?;
+        self.network.add_member(member);
         self.due = match self.due {
             Due::Members(left) if left > 1 => Due::Members(left - 1),
             _ => Due::ClaimOrEnd,
@@ -165,13 +181,13 @@ impl Reader {
 
     fn end_claim(
         &mut self,
-        record: Record,
+        record: &Record,
         debtor: u8,
         creditor: u8,
         units: u32,
-    ) -> Result<(), Halt> {
+    ) -> Result<(), Refusal> {
         let named = Named::Pair(debtor, creditor);
-        if usize::from(debtor.max(creditor)) >= self.network.members.len() {
+        if usize::from(debtor.max(creditor)) >= self.network.count {
             return Err(record.in_draft(Cause::NoSuchMember, named));
         }
         if debtor == creditor {
@@ -184,25 +200,24 @@ impl Reader {
             return Err(record.in_file(Cause::ClaimOrder));
         }
         self.last = Some((debtor, creditor));
-        self.network.members[usize::from(debtor)]
-            .claims
-            .put(usize::from(creditor), units);
+        self.network
+            .put_claim(usize::from(debtor), usize::from(creditor), units);
         Ok(())
     }
 }
 
 // The network whose file this is.
-pub fn read(heap: Global, file: &[u8]) -> Result<Network, Halt> {
-    let mut reader = Reader::start(heap);
+pub fn read(file: &[u8]) -> Result<Network, Refusal> {
+    let mut reader = Reader::start();
     for (byte, value) in file.iter().enumerate() {
         reader.take(byte, *value)?;
     }
     match (reader.record, reader.due) {
         (None, Due::Nothing) => Ok(reader.network),
-        (None, _) => Err(Halt::Refused(Refusal::File {
+        (None, _) => Err(Refusal::File {
             cause: Cause::EndOfFile,
             byte: file.len(),
-        })),
+        }),
         (Some(record), _) => Err(record.in_file(Cause::EndOfFile)),
     }
 }

@@ -1,6 +1,6 @@
 // Rows of units, one entry for each member.
 
-// Beyond the last member a row is 0, and what is put there is lost. A row is a plain value of a fixed width, so that
+// From place 32 on a row is 0, and what is put there is lost. A row is a plain value of a fixed width, so that
 // nothing that is done with it can run out of memory.
 #[derive(Clone, Copy, Default)]
 pub struct Row {
@@ -8,11 +8,11 @@ pub struct Row {
 }
 
 impl Row {
-    pub fn as_slice(&self) -> &[u32] {
+    pub(crate) fn as_slice(&self) -> &[u32] {
         &self.units
     }
 
-    pub(crate) fn at(&self, member: usize) -> u32 {
+    pub fn at(&self, member: usize) -> u32 {
         self.units.get(member).copied().unwrap_or(0)
     }
 

@@ -2,14 +2,15 @@
 use crate::network::Network;
 use crate::payments::Payments;
 use crate::request::Round;
+use std::alloc::{AllocError, Global};
 use std::fmt;
 
 // What closing took: rounds that moved units, units moved, and members passed over in the last round.
 #[derive(Clone, Copy, Default)]
 pub struct Account {
-    rounds: usize,
-    units: usize,
-    passed_over: usize,
+    pub rounds: usize,
+    pub units: usize,
+    pub passed_over: usize,
 }
 
 impl Account {
@@ -44,25 +45,17 @@ impl fmt::Display for Account {
 
 // The sheet of a network with these payments.
 #[derive(Clone, Copy)]
-pub struct Sheet<'a> {
+struct Sheet<'a> {
     network: &'a Network,
     payments: &'a Payments,
     account: Account,
 }
 
-impl<'a> Sheet<'a> {
-    pub fn new(network: &'a Network, payments: &'a Payments, account: Account) -> Sheet<'a> {
-        Sheet {
-            network,
-            payments,
-            account,
-        }
-    }
-
+impl Sheet<'_> {
     // Each claim above 0 has a line. The chain over the rows stands in each of these methods: of a chain that a method
     // answers, the proof of a loop does not know that it ends.
     fn write_payments<W: fmt::Write>(&self, f: &mut fmt::Formatter<W>) -> fmt::Result {
-        let rows = self.network.members.iter().zip(self.payments.rows.iter());
+        let rows = self.network.members().iter().zip(self.payments.rows.iter());
         for (debtor, (member, row)) in rows.enumerate() {
             let entries = member.claims.as_slice().iter().zip(row.as_slice());
             for (creditor, (claim, paid)) in entries.enumerate() {
@@ -75,7 +68,7 @@ impl<'a> Sheet<'a> {
     }
 
     fn write_equities<W: fmt::Write>(&self, f: &mut fmt::Formatter<W>) -> fmt::Result {
-        let rows = self.network.members.iter().zip(self.payments.rows.iter());
+        let rows = self.network.members().iter().zip(self.payments.rows.iter());
         for (number, (member, row)) in rows.enumerate() {
             let received = self.payments.total_to(number);
             let estate = member.endowment.saturating_add(received);
@@ -86,7 +79,7 @@ impl<'a> Sheet<'a> {
     }
 
     fn write_defaults<W: fmt::Write>(&self, f: &mut fmt::Formatter<W>) -> fmt::Result {
-        let rows = self.network.members.iter().zip(self.payments.rows.iter());
+        let rows = self.network.members().iter().zip(self.payments.rows.iter());
         for (number, (member, row)) in rows.enumerate() {
             if row.total() < member.claims.total() {
                 writeln!(f, "default {number}")?;
@@ -104,4 +97,19 @@ impl fmt::Display for Sheet<'_> {
         let account = self.account;
         writeln!(f, "{account}")
     }
+}
+
+// The lines of a sheet with these payments.
+pub fn sheet_text(
+    heap: Global,
+    network: &Network,
+    payments: &Payments,
+    account: Account,
+) -> Result<String, AllocError> {
+    let sheet = Sheet {
+        network,
+        payments,
+        account,
+    };
+    sheet.to_string(heap)
 }
