@@ -5,7 +5,7 @@ use network::Draft;
 use second::{Halt, Ledger, Network, Payments, Request, read, sheet_text};
 use std::alloc::{AllocError, Global};
 
-// A want of memory apart from what else halts the second implementation.
+// What the second implementation answers; a want of memory is an error of its own.
 pub fn answered<T: Drop>(answer: Result<T, Halt>) -> Result<Result<T, Halt>, AllocError> {
     match answer {
         Err(Halt::NoMemory(error)) => Err(error),

@@ -25,8 +25,8 @@ impl Dice {
         low.saturating_add((self.roll() >> 32) as u32 % width.max(1))
     }
 
-    // The same for numbers that fit a byte. Not by `between`, which takes other bits of a roll: the seed is to draw the files
-    // that it drew.
+    // The same for numbers that fit a byte. Not by `between`, which takes other bits of a roll: the seed is to draw the
+    // files that it drew.
     pub fn byte(&mut self, low: u8, high: u8) -> u8 {
         let width = high.saturating_sub(low).saturating_add(1);
         low.saturating_add((self.roll() >> 56) as u8 % width.max(1))

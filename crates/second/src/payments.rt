@@ -1,8 +1,8 @@
 // Payments from each debtor to each creditor.
 use crate::row::Row;
 
-// A row for each debtor; past the last debtor they are empty. Of a fixed width, so that opening a ledger and finding the
-// least payments cannot run out of memory.
+// A row for each debtor; past the last debtor they are empty. Of a fixed width, so that opening a ledger and finding
+// the least payments cannot run out of memory.
 #[derive(Clone, Copy, Default)]
 pub struct Payments {
     pub rows: [Row; 32],
