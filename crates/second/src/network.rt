@@ -1,4 +1,6 @@
 // A network as it stands in a file.
+ghost use Rattle.std.specs.Prelude.{◌≡◌, take};
+
 use crate::row::Row;
 
 // A member, with the claims on it.
@@ -19,7 +21,9 @@ pub struct Network {
 }
 
 impl Network {
-    pub fn members(&self) -> &[Member] {
+    pub fn members(&self) -> &[Member]
+        ensures { result.now ≡ take self.now.count self.now.members }
+    {
         &self.members[..self.count.min(32)]
     }
 

@@ -1,4 +1,5 @@
 // Rows of units, one entry for each member.
+ghost use Rattle.std.specs.Prelude.{◌≡◌, slice_index};
 
 // From place 32 on a row is 0, and what is put there is lost. A row is a plain value of a fixed width, so that
 // nothing that is done with it can run out of memory.
@@ -12,7 +13,9 @@ impl Row {
         &self.units
     }
 
-    pub fn at(&self, member: usize) -> u32 {
+    pub fn at(&self, member: usize) -> u32
+        ensures { result ≡ slice_index self.now.units member }
+    {
         self.units.get(member).copied().unwrap_or(0)
     }
 
