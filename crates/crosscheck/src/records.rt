@@ -1,4 +1,4 @@
-// Writing records of a network file, right or wrong.
+// Writing records of a network file, right or wrong. (By numbers of its own: what is compared is not written by the engine.)
 use std::alloc::{AllocError, Global};
 
 // A file in the making.

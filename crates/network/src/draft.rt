@@ -62,7 +62,8 @@ impl Draft {
         Ok(())
     }
 
-    // Sets the claim of one creditor on one debtor; 0 erases it.
+    // Sets the claim of one creditor on one debtor; 0 erases it. (Three numbers and no struct, here and wherever a claim is
+    // named: a call would make one only to take it apart.)
     pub fn enter_claim(&mut self, debtor: u8, creditor: u8, units: u32) -> Result<(), Fault>
         ensures { Gives (claim_fault self.old.figures.n debtor creditor units)
             (λ _. ClaimSet self.old.figures debtor creditor units self.new.figures)

@@ -27,7 +27,7 @@ pub enum Layer {
 }
 
 impl Layer {
-    // The name by which a layer is printed.
+    // The name by which a layer is printed, for whom takes it as a text.
     pub fn name(self) -> &'static str
         ensures { result.now ≡ name_of self }
     {

@@ -47,7 +47,7 @@ fn every_house_of_the_ring(rt: HostRuntime) -> Result<(), Fail> {
     check_divisions(&rt, &ring_rulebook(draft.figures()), &divisions)
 }
 
-// The number of the cause for which a list is refused, and the creditor named.
+// The number of the cause for which a list is refused, and the creditor named. (Numbers: it is these that are fixed.)
 fn refusal(claims: &[u32], room: usize) -> Option<(u8, u8)> {
     check_claims(claims, room)
         .err()

@@ -29,6 +29,7 @@ impl Row {
         self.put(member, self.at(member).saturating_add(1));
     }
 
+    // (This fold stands where a total is wanted: over any iterator it would have to ask that the iterator ends.)
     pub(crate) fn total(&self) -> u32 {
         self.units.iter().copied().fold(0, u32::saturating_add)
     }
