@@ -1,6 +1,7 @@
 // A second implementation of the network file, the division rules, the book and clearing, written from the
 // pages in docs/ and sharing nothing with the engine, so that the two can be compared. What it answers is
-// evidence by comparison and not by proof: its functions are proved safe and ending, and promise no more.
+// evidence by comparison and not by proof: its functions are proved safe and ending, and but for two that
+// lend an entry and the members they promise no more.
 //
 // It goes another way than the engine. Each rule is a queue, the order in which a debtor pays the units of
 // the claims on it, so that what is due from an estate is the front of the queue; a network is cleared by
