@@ -62,6 +62,7 @@ fn parse_call(line: &str) -> Option<Call> {
 // The calls of an order, to be made.
 pub fn parse_order(heap: Global, text: &str) -> Result<Vec<Task>, OrderError> {
     let mut tasks = Vec::new(heap);
+    // lines are numbered from 1, and `enumerate` counts from 0
     for (i, line) in text.lines().enumerate() {
         let line = line.split_once('#').map_or(line, |(call, _)| call).trim();
         if !line.is_empty() {

@@ -18,6 +18,7 @@ impl Records {
         self.bytes.extend_from_slice(&[1, n])
     }
 
+    // (Its numbers one by one: they may be past what a member can have.)
     pub fn push_member(
         &mut self,
         member: u8,

@@ -9,7 +9,8 @@ use crate::rest::Rest;
 use network::{Cause, Draft, Fault};
 
 // Sets every entry of a draft from the file of a network of as many members. The whole file is checked
-// before the draft is altered.
+// before the draft is altered. (Whoever has no draft yet counts first and makes one of as many: in the engine no table
+// passes through a `Result`, so there is no one call for the three.)
 pub fn load(draft: &mut Draft, file: &[u8]) -> Result<(), Fault>
     ensures loaded { Loaded draft.old file.now result draft.new }
     ensures accepts { Accepts draft.old file.now result draft.new }

@@ -24,8 +24,8 @@ pub(crate) fn read(draft: &mut Draft, rest: Rest, due: Due) -> Result<Due, Fault
     }
 }
 
-// (Each reader tells the record that is due from others by itself, and count does: one function for all could not lend a body
-// of a kind that its caller names.)
+// (Each reader tells the record that is due from others by itself, and count does as this one: a function for all could not
+// lend a body of a kind that its caller names, and one for two is no shorter than its call.)
 fn read_network(draft: &Draft, rest: Rest) -> Result<Due, Fault>
     ensures { Reads draft.now.figures Due.Network rest.entry.byte rest.entry.bytes.now
         result draft.now.figures }

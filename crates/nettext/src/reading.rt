@@ -76,6 +76,7 @@ fn count_line(line: &str) -> Result<MemberCount, Slip> {
 
 // The members that the text says there are, in its first line that is not empty.
 pub fn count_text(text: &str) -> Result<MemberCount, BadLine> {
+    // lines are numbered from 1, and `enumerate` counts from 0
     let mut lines = text.lines().map(content).enumerate();
     let (i, line) = lines.find(|(_, line)| !line.is_empty()).ok_or(BadLine {
         number: 1,

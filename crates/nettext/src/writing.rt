@@ -16,6 +16,7 @@ fn push_members(lines: &mut Vec<TextLine>, figures: &Figures) -> Result<(), Allo
 fn push_claims(lines: &mut Vec<TextLine>, figures: &Figures) -> Result<(), AllocError>
     ensures { OnOk result (lines.new.items ≡ lines.old.items ++ claim_lines figures.now figures.now.n) }
 {
+    // a loop over the debtors: of one chain for all lines, tried, the check leaves `returns`
     for (debtor, row) in (0..figures.n).zip(&figures.claims) {
         let claims = (0..figures.n).zip(row).filter(|(_, units)| **units != 0);
         lines.extend(claims.map(|(creditor, units)| TextLine::Claim(debtor, creditor, *units)))?;

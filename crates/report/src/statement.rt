@@ -11,6 +11,7 @@ fn push_payments(lines: &mut Vec<Line>, sheet: &Sheet) -> Result<(), AllocError>
     ensures { OnOk result (lines.new.items ≡ lines.old.items ++ paid_lines sheet.now sheet.now.figures.n) }
 {
     let n = sheet.figures.n;
+    // a loop over the debtors, as nettext has it, whose one chain for all lines the check does not close
     for (debtor, (claims, paid)) in (0..n).zip(sheet.figures.claims.iter().zip(&sheet.paid)) {
         let row = (0..n).zip(claims.iter().zip(paid.iter()));
         let claimed = row.filter(|(_, (claim, _))| **claim != 0);
