@@ -99,6 +99,7 @@ fn main(rt: HostRuntime) -> anyhow::Result<ExitCode> {
             compare_changing(&mut dice, tally, 200)
         })?,
     ];
+    // an `if`, since both ends have names
     Ok(if agree.iter().all(|agree| *agree) {
         ExitCode::SUCCESS
     } else {

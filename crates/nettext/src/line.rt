@@ -46,7 +46,7 @@ fn number<T: FromStr<Err: Drop>>(words: &mut SplitWhitespace<'_>) -> Option<T> {
     words.next()?.parse::<T>().ok()
 }
 
-// The number behind a word that has to stand there.
+// The number behind a word that has to stand there. (An `if`: a `filter` would pass the word on only to drop it.)
 fn named<T: FromStr<Err: Drop>>(words: &mut SplitWhitespace<'_>, name: &str) -> Option<T> {
     if words.next()? == name {
         number(words)
