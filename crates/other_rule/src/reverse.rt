@@ -24,9 +24,9 @@ fn pay_from_last(estate: u32, claims: &[u32], awards: &mut [u32])
     ensures { awards.new ≡ reverse_priority estate claims.now }
 {
     let mut left = estate;
-    // By number: of what `rev` of `iter_mut` lends, a proof knows only the length.
-    for (k, claim) in claims.iter().enumerate().rev() {
-        let award = left.min(*claim);
+    // By number: over `claims.iter().enumerate().rev()` the proof is longer.
+    for k in (0..claims.len()).rev() {
+        let award = left.min(claims[k]);
         awards[k] = award;
         left -= award;
     }
