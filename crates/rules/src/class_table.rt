@@ -34,12 +34,13 @@ impl ClassTable {
         requires { length room.now ≡ length claims.now.list.now }
         ensures { result.list.now ≡ of_class self.now.classes class claims.now.list.now }
     {
-        room.copy_from_slice(claims.list);
         // Numbered and not zipped: of what a `zip` over `iter_mut` lends, a proof knows only the length.
         for (k, claim) in room.iter_mut().enumerate() {
-            if self.classes[k] != class {
-                *claim = 0;
-            }
+            *claim = if self.classes[k] == class {
+                claims.list[k]
+            } else {
+                0
+            };
         }
         ClaimList { list: room }
     }

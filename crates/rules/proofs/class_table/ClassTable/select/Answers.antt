@@ -11,9 +11,9 @@ pub invariant_of-result : goal.invariant_of-result
 invariant_of-result c =
     let ts : List ℕ = c.args.self.now.classes in
     let cs : List ℕ = c.args.claims.now.list.now in
-    rw (filled ts cs c.loop-k.room c.args.class c.loop-k.k (omega arith) (omega arith) c.loop-k.invariant.0)
+    rw (filled ts cs c.loop-k.room c.args.class c.loop-k.k (omega arith) (omega arith) c.loop-k.invariant)
     (record { admitted = class_admitted ts c.args.class cs c.args.claims.now.admitted })
 
 pub returns : goal.returns
 returns c =
-    filled c.args.self.now.classes c.args.claims.now.list.now c.loop-k.room c.args.class c.loop-k.k (omega arith) (omega arith) c.loop-k.invariant.0
+    filled c.args.self.now.classes c.args.claims.now.list.now c.loop-k.room c.args.class c.loop-k.k (omega arith) (omega arith) c.loop-k.invariant
