@@ -62,10 +62,13 @@ impl<S: Standard> Contest<'_, S> {
             return None;
         }
         let total = guess.iter().sum();
+        if total > units {
+            return None;
+        }
         let least = self.least_held(guess);
         let greatest = greatest(&heads[..self.claims.list.len()]);
         // By `if`: after `then_some` the check leaves a goal.
-        if total <= units && higher(least, greatest) {
+        if higher(least, greatest) {
             Some(total)
         } else {
             None

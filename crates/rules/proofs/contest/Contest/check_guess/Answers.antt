@@ -21,7 +21,7 @@ returns-then-higher g c =
     let guess = c.args.guess.now in
     let within = within_is guess cs c.requires.scores.listed (sym c.within.ensures ∙ c.if-not-within.false) in
     let total : c.sum-total.result ≡ sum guess = search rules in (
-      c.if-total-units.true,
+      c.if-total-units.false,
       guess_is_dealt f positive cs guess c.args.heads.now within c.requires.scores c.least_held-least.result c.greatest-greatest.result
           c.least_held-least.ensures.1 c.greatest-greatest.ensures.1 (ltb-true _ _ (sym c.higher.ensures ∙ c.if-higher.true)) c.requires.falling c.args.self.now.claims.admitted
           ∙ sym (ap (dealt f cs) total),
