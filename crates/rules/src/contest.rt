@@ -1,5 +1,5 @@
 // A contest for units, and the score of every creditor's next unit.
-ghost use Rattle.std.specs.Prelude.{◌≡◌, ◌<◌, length, slice_index};
+ghost use Rattle.std.specs.Prelude.{◌≡◌, ◌<◌, ◌≤◌, length, slice_index};
 ghost use Rattle.rules.specs.Kept.{Answers, Heads};
 
 use crate::claims::ClaimList;
@@ -30,16 +30,15 @@ impl<S: Standard> Contest<'_, S> {
         self.standard.score(creditor as u8, claim, held)
     }
 
-    // The score of every creditor's next unit.
-    pub(crate) fn scores(&self, held: &[u32]) -> [(u32, u32); 32]
-        requires { length held.now ≡ length self.now.claims.list.now }
-        ensures { Heads (S.scored self.now.standard.now) self.now.claims.list.now held.now result }
+    // Scores every creditor's next unit, in place: an array that is answered is copied.
+    pub(crate) fn scores(&self, held: &[u32], heads: &mut [(u32, u32)])
+        requires same { length held.now ≡ length self.now.claims.list.now }
+        requires room { length self.now.claims.list.now ≤ length heads.old }
+        ensures { Heads (S.scored self.now.standard.now) self.now.claims.list.now held.now heads.new }
     {
-        let mut heads = [(0, 1); 32];
         for (k, units) in held.iter().enumerate() {
             // By index: of what a `zip` over `iter_mut` lends, a proof knows only the length.
             heads[k] = self.score(k, *units);
         }
-        heads
     }
 }

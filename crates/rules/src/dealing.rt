@@ -55,9 +55,9 @@ impl<S: Standard> Contest<'_, S> {
     }
 
     // Hands out the units that are left, up to `units`.
-    pub(crate) fn deal(&self, mut begun: Standing, units: u32, awards: &mut [u32])
-        requires begun { Underway (S.scored self.now.standard.now) self.now.claims.list.now begun.units awards.old begun.heads }
-        requires order { begun.units ≤ units }
+    pub(crate) fn deal(&self, begun: &mut Standing, units: u32, awards: &mut [u32])
+        requires begun { Underway (S.scored self.now.standard.now) self.now.claims.list.now begun.old.units awards.old begun.old.heads }
+        requires order { begun.old.units ≤ units }
         ensures { awards.new ≡ dealt (S.scored self.now.standard.now) self.now.claims.list.now units }
     {
         for _unit in begun.units..units {

@@ -75,24 +75,25 @@ impl<S: Standard> Contest<'_, S> {
         }
     }
 
-    // Awards that the creditors hold after some of the units: a guess that passes the check, or nothing.
-    pub(crate) fn begin(&self, units: u32, awards: &mut [u32]) -> Standing
-        requires { length awards.old ≡ length self.now.claims.list.now }
-        ensures begun { Underway (S.scored self.now.standard.now) self.now.claims.list.now result.units awards.new result.heads }
-        ensures order { result.units ≤ units }
+    // Awards that the creditors hold after some of the units: a guess that passes the check, or nothing. How
+    // many these are, and the scores of the next ones, stand in `begun`.
+    pub(crate) fn begin(&self, units: u32, begun: &mut Standing, awards: &mut [u32])
+        requires same { length awards.old ≡ length self.now.claims.list.now }
+        requires room { length self.now.claims.list.now ≤ length begun.old.heads }
+        ensures begun { Underway (S.scored self.now.standard.now) self.now.claims.list.now begun.new.units awards.new begun.new.heads }
+        ensures order { begun.new.units ≤ units }
     {
         awards.fill(0);
         if self.standard.never_rises() {
             self.standard.guess(units, self.claims.list, awards);
-            let heads = self.scores(awards);
-            if let Some(units) = self.check_guess(units, awards, &heads) {
-                return Standing { units, heads };
+            self.scores(awards, &mut begun.heads);
+            if let Some(held) = self.check_guess(units, awards, &begun.heads) {
+                begun.units = held;
+                return;
             }
             awards.fill(0);
         }
-        Standing {
-            units: 0,
-            heads: self.scores(awards),
-        }
+        self.scores(awards, &mut begun.heads);
+        begun.units = 0;
     }
 }

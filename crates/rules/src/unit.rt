@@ -5,7 +5,7 @@ ghost use Rattle.rules.specs.Unit.{dealt, unit_rule};
 ghost use Rattle.rules.specs.UnitLaws.{unit_laws};
 
 use crate::claims::ClaimList;
-use crate::contest::Contest;
+use crate::contest::{Contest, Standing};
 use crate::rulebook::Rulebook;
 use crate::standard::Standard;
 use network::Fault;
@@ -37,8 +37,12 @@ impl<S: Standard> Contest<'_, S> {
         requires { length awards.old ≡ length self.now.claims.list.now }
         ensures { awards.new ≡ dealt (S.scored self.now.standard.now) self.now.claims.list.now units }
     {
-        let begun = self.begin(units, awards);
-        self.deal(begun, units, awards);
+        let mut begun = Standing {
+            units: 0,
+            heads: [(0, 1); 32],
+        };
+        self.begin(units, &mut begun, awards);
+        self.deal(&mut begun, units, awards);
     }
 }
 
