@@ -1,12 +1,9 @@
 -- Sums and tests over the members below n, in the library's words for the front of a list.
-use Rattle.std.proofs.Common.{◌≡◌, ℕ, zero, suc, ◌+◌, ◌<◌, ◌≤◌, Bool, true, false, not, ◌||◌, eqb, Decides, List, [], ◌∷◌, length, get_or, take, zip, sum, sum_by, sym, refl, ap, ◌∙◌, add-one, le_refl, inl, inr, arith}
+use Rattle.std.proofs.Common.{◌≡◌, ℕ, zero, suc, ◌+◌, ◌<◌, ◌≤◌, Bool, true, false, not, ◌||◌, eqb, ltb, List, [], ◌∷◌, length, get_or, take, zip, sum, sum_by, sym, refl, ap, ◌∙◌, add-one, le_refl, inl, inr, arith}
 use Rattle.std.specs.List.{list_any}
 use Rattle.std.proofs.lemmas.List.Sums.{sum_by_more}
-use Rattle.std.proofs.lemmas.List.{ext_get_or}
-use Rattle.std.proofs.lemmas.Bool.{cases_Bool, cases_eq, cases_lt, both_ways, or_from}
-use Rattle.std.proofs.lemmas.Bool.Decides.{Decides-eqb, Decides-not}
+use Rattle.std.proofs.lemmas.Bool.{cases_lt, lt-ltb, le-ltb, eq-eqb, ne_eqb, or_from, not_from_true, not_from_false}
 use Rattle.clearing.specs.Networks.{total, any}
-use Rattle.clearing.proofs.Totals.{any_decides}
 
 pub sum_by_total : {X : Type 0} (f : X → ℕ) (d : X) (xs : List X) (n : ℕ) → n ≤ length xs → sum_by f (take n xs) ≡ total n (λ k. f (get_or xs k d))
 sum_by_total f d xs zero h = refl
@@ -36,22 +33,10 @@ any_zip p (x ∷ xs) [] (suc n) a b = absurd (omega arith)
 any_zip p (x ∷ xs) (y ∷ ys) (suc n) a b =
     ap (λ r. p (x, y) || r) (any_zip p xs ys n (omega arith) (omega arith)) ∙ sym (any_front n (λ k. p (get_or (x ∷ xs) k 0, get_or (y ∷ ys) k 0)))
 
--- lists that are alike past n
-pub rows_differ : (xs ys : List ℕ) (n : ℕ) → length xs ≡ length ys → ((k : ℕ) → n ≤ k → get_or xs k 0 ≡ get_or ys k 0)
-    → (same : Bool) → Decides same (xs ≡ ys) → not same ≡ any n (λ k. not (eqb (get_or xs k 0) (get_or ys k 0)))
-rows_differ xs ys n wide past same d =
-    let test : ℕ → Bool = λ k. not (eqb (get_or xs k 0) (get_or ys k 0)) in
-    let some : Decides (any n test) ((k : ℕ) × (k < n) × (get_or xs k 0 ≡ get_or ys k 0 → ⊥)) = any_decides test (λ k. get_or xs k 0 ≡ get_or ys k 0 → ⊥) (λ k. Decides-not _ (Decides-eqb (get_or xs k 0) (get_or ys k 0))) n in
-    elim (cases_Bool same) [
-      | inl t ↦ elim (cases_Bool (any n test)) [
-        | inl a ↦ (let w = some.0 a in absurd (w.2 (ap (λ (zs : List ℕ). get_or zs w.0 0) (d.0 t))))
-        | inr a ↦ ap not t ∙ sym a
-      ]
-      | inr f ↦ elim (cases_Bool (any n test)) [
-        | inl a ↦ ap not f ∙ sym a
-        | inr a ↦ absurd (both_ways same f (d.1 (ext_get_or 0 xs ys wide (λ k _. elim (cases_lt k n) [
-          | inl l ↦ elim (cases_eq (get_or xs k 0) (get_or ys k 0)) [ inl e ↦ e | inr e ↦ absurd (both_ways (any n test) a (some.1 (k, l, e))) ]
-          | inr l ↦ past k l
-        ]))))
-      ]
+-- a number that is not above another is less or the same
+pub less_differs : (x y : ℕ) → x ≤ y → ltb x y ≡ not (eqb x y)
+less_differs x y h =
+    elim (cases_lt x y) [
+      | inl l ↦ lt-ltb x y l ∙ sym (not_from_false (eqb x y) (ne_eqb x y (λ e. omega arith)))
+      | inr g ↦ le-ltb x y g ∙ sym (not_from_true (eqb x y) (eq-eqb x y (omega arith)))
     ]

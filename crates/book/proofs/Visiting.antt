@@ -192,10 +192,10 @@ keeps_passed A B m l t V kept =
     over_then = let w = above A B m t in (w.0, w.1, omega (arith, w.2, ap (λ x. division_of A B m x w.0) (kept.worth m l)))
 
 -- nobody visited yet
-pub keeps_none : (A : Meaning) (B : Book) (V : List Tally) → length V ≡ 32 → ((m : ℕ) → m < 32 → Fresh B m (tally_at V m)) → Kept A B V
+pub keeps_none : (A : Meaning) (B : Book) (V : List Tally) → length V ≡ 32 → ((m : ℕ) → m < B.figures.n → Fresh B m (tally_at V m)) → Kept A B V
 keeps_none A B V wide fresh =
     record {
       wide = wide;
-      worth = λ m l. (fresh m (omega (arith, B.figures.few))).worth;
-      noted = λ m l. subst (λ v. Noted (net_of B) (division_of A B) (payments_of B) m v) (sym (fresh m (omega (arith, B.figures.few))).never) tt;
+      worth = λ m l. (fresh m l).worth;
+      noted = λ m l. subst (λ v. Noted (net_of B) (division_of A B) (payments_of B) m v) (sym (fresh m l).never) tt;
     }

@@ -14,7 +14,7 @@ impl Book {
     fn equities(&self) -> [u32; 32]
         ensures { (i : ℕ) → slice_index result i ≡ cash_of self.now i }
     {
-        std::array::from_fn(|at| self.seat(at).cash())
+        std::array::from_fn(|at| self.seat(at).equity())
     }
 
     // Which members default, none past them.

@@ -45,8 +45,9 @@ impl<'a> Seat<'a> {
     pub(crate) fn would_pay<R: Rulebook>(&self, rulebook: &R) -> bool
         ensures { result ≡ would_pay (net_of self.now.book.now) (division_of (R.awarded rulebook.now) self.now.book.now) (payments_of self.now.book.now) self.now.at }
     {
+        let n = self.book.figures.n as usize;
         let due = self.due_row(rulebook, self.estate());
-        !self.recedes(&due) && *self.row() != due
+        !self.recedes(&due) && some_above(&due[..n], &self.row()[..n])
     }
 
     // What a settle would do at the member's estate, which the caller gives; none if it has receded.

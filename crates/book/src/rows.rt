@@ -63,6 +63,13 @@ impl<'a> Seat<'a> {
         row_total(self.row(), self.book.figures.n)
     }
 
+    // Whether a member sits there.
+    fn taken(&self) -> bool
+        ensures { result ≡ nat_lt self.now.at self.now.book.now.figures.n }
+    {
+        self.at < self.book.figures.n as usize
+    }
+
     // What it has left.
     pub(crate) fn cash(&self) -> u32
         ensures { result ≡ cash_of self.now.book.now self.now.at }
@@ -70,10 +77,18 @@ impl<'a> Seat<'a> {
         self.estate() - self.outlay()
     }
 
+    // The same, and 0 where none sits with nothing summed: in a small network most seats are empty.
+    pub(crate) fn equity(&self) -> u32
+        ensures { result ≡ cash_of self.now.book.now self.now.at }
+    {
+        if self.taken() { self.cash() } else { 0 }
+    }
+
     // Whether it has paid in total less than the claims on it.
     pub(crate) fn defaults(&self) -> bool
         ensures { result ≡ nat_lt (outlay_of self.now.book.now self.now.at) (owed (net_of self.now.book.now) self.now.at) }
     {
-        self.outlay() < row_total(&self.book.figures.claims[self.at], self.book.figures.n)
+        self.taken()
+            && self.outlay() < row_total(&self.book.figures.claims[self.at], self.book.figures.n)
     }
 }

@@ -59,7 +59,15 @@ impl Book {
     pub(crate) fn no_visits(&self) -> [Tally; 32]
         ensures { (A : Meaning) → Kept A self.now result }
     {
-        std::array::from_fn(|at| self.seat(at).unvisited())
+        let mut tallies = [Tally {
+            estate: 0,
+            last: Visit::Never,
+        }; 32];
+        // By index, the members alone: a `from_fn` goes through all 32 seats, which takes a small network longer than its round.
+        for m in 0..self.figures.n as usize {
+            tallies[m] = self.seat(m).unvisited();
+        }
+        tallies
     }
 
     // Settles a member at its kept estate, adds what it pays to its creditors' estates, and notes how the
