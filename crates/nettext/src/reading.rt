@@ -46,7 +46,8 @@ impl fmt::Display for Slip {
             Slip::Member => f.write_str("not the next member"),
             Slip::Again => f.write_str("the claim was entered before"),
             Slip::Missing => f.write_str("members are missing"),
-            Slip::Refused(fault) => write!(f, "{fault}"),
+            // (a line of a text is no record of a file, whatever byte the fault has)
+            Slip::Refused(fault) => write!(f, "{}", fault.at_byte(0)),
         }
     }
 }
