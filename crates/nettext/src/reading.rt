@@ -123,15 +123,16 @@ pub fn load_text(draft: &mut Draft, text: &str) -> Result<(), BadLine>
 {
     let mut next = Draft::new(draft.count());
     let mut due = None;
-    for (i, line) in text.lines().map(content).enumerate() {
+    let mut number = 0usize;
+    for line in text.lines().map(content) {
+        number = number.saturating_add(1);
         if !line.is_empty() {
-            let number = i.saturating_add(1);
             due = Some(enter(&mut next, due, line).map_err(|slip| BadLine { number, slip })?);
         }
     }
     if due != Some(draft.count().get()) {
         return Err(BadLine {
-            number: text.lines().count(),
+            number,
             slip: Slip::Missing,
         });
     }
