@@ -20,7 +20,7 @@ abbrev pub above_0 : ℕ → Bool
 above_0 x = ltb 0 x
 
 module _ (f : Figures) where
-  length_rows : (i : ℕ) → i ≤ 32 → length (flat_map whole_row (take i f.claims)) ≡ 32 * i
+  pub length_rows : (i : ℕ) → i ≤ 32 → length (flat_map whole_row (take i f.claims)) ≡ 32 * i
   length_rows zero h = refl
   length_rows (suc i) h =
       let row : i < length f.claims = omega (arith, f.rows) in

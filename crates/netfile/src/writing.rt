@@ -24,12 +24,24 @@ pub fn file_length(figures: &Figures) -> usize
 fn claim_count(figures: &Figures) -> usize
     ensures { result ≡ count_by (λ x. nat_lt 0 x) (flat_map (λ row. row) figures.now.claims) }
 {
-    figures
-        .claims
-        .iter()
-        .flatten()
-        .filter(|units| **units > 0)
-        .count()
+    let mut claims = 0;
+    for row in &figures.claims {
+        claims += row_count(row);
+    }
+    claims
+}
+
+// Those in one row. (A loop: a chain, even for each row, takes more than half as long again.)
+fn row_count(row: &[u32; 32]) -> usize
+    ensures { result ≡ count_by (λ x. nat_lt 0 x) row.now }
+{
+    let mut claims = 0;
+    for units in row {
+        if *units > 0 {
+            claims += 1;
+        }
+    }
+    claims
 }
 
 // Writes a draft's file into a buffer and answers its length; the bytes behind it stay.

@@ -46,7 +46,8 @@ impl fmt::Display for Slip {
             Slip::Member => f.write_str("not the next member"),
             Slip::Again => f.write_str("the claim was entered before"),
             Slip::Missing => f.write_str("members are missing"),
-            Slip::Refused(fault) => write!(f, "{fault}"),
+            // (a line of a text is no record of a file, whatever byte the fault has)
+            Slip::Refused(fault) => write!(f, "{}", fault.at_byte(0)),
         }
     }
 }
@@ -122,15 +123,16 @@ pub fn load_text(draft: &mut Draft, text: &str) -> Result<(), BadLine>
 {
     let mut next = Draft::new(draft.count());
     let mut due = None;
-    for (i, line) in text.lines().map(content).enumerate() {
+    let mut number = 0usize;
+    for line in text.lines().map(content) {
+        number = number.saturating_add(1);
         if !line.is_empty() {
-            let number = i.saturating_add(1);
             due = Some(enter(&mut next, due, line).map_err(|slip| BadLine { number, slip })?);
         }
     }
     if due != Some(draft.count().get()) {
         return Err(BadLine {
-            number: text.lines().count(),
+            number,
             slip: Slip::Missing,
         });
     }

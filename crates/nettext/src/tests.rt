@@ -1,6 +1,6 @@
-// Texts read into a draft that was not made for them, which scribe never does.
-use crate::reading::load_text;
-use network::{Draft, MemberCount};
+// Texts read into a draft that was not made for them, which scribe never does, and a fault that no text gives.
+use crate::reading::{Slip, load_text};
+use network::{Cause, Draft, Fault, Layer, MemberCount};
 use std::alloc::Global;
 use std::process::Abort;
 use std::test::Fail;
@@ -50,4 +50,12 @@ fn a_text_of_two_members(rt: HostRuntime) -> Result<(), Fail> {
         "members 2\nmember 0 house 0 class 0 endowment 0\nmember 1 house 0 class 0 endowment 0",
         "read",
     )
+}
+
+#[test]
+fn a_fault_is_told_at_byte_0(rt: HostRuntime) -> Result<(), Fail> {
+    let slip = Slip::Refused(Fault::of_nobody(Layer::Draft, Cause::MemberCount).at_byte(7));
+    let told = format!(in rt.alloc(); "{slip}")?;
+    assert!(rt; told.as_str() == "fault 1 draft 0 255 255");
+    Ok(())
 }

@@ -4,6 +4,7 @@
 mod clearance;
 mod line;
 mod statement;
+mod writing;
 
 pub use clearance::{LONGEST_INPUT, Report, clear};
 pub use line::{Line, print};

@@ -2,10 +2,10 @@
 ghost use Rattle.std.specs.Prelude.{◌≡◌, IfOk, Some, string_bytes};
 ghost use Rattle.report.specs.Lines.{printed, text_of};
 
+use crate::writing::push_line;
 use network::Fault;
 use std::alloc::{AllocError, Global};
 use std::fmt;
-use std::fmt::Write;
 
 #[derive(Clone, Copy)]
 pub enum Line {
@@ -42,7 +42,7 @@ pub fn print(heap: Global, lines: &[Line]) -> Result<String, AllocError>
 {
     let mut text = String::new(heap);
     for line in lines {
-        writeln!(text, "{line}")?;
+        push_line(heap, &mut text, *line)?;
     }
     Ok(text)
 }

@@ -1,21 +1,31 @@
 // The lines of a settlement sheet.
-ghost use Rattle.std.specs.Prelude.{◌≡◌, ◌++◌, IfOk, OnOk};
-ghost use Rattle.report.specs.Sheets.{default_lines, equity_lines, lines_of, paid_lines};
+ghost use Rattle.std.specs.Prelude.{◌≡◌, ◌<◌, ◌++◌, IfOk, OnOk};
+ghost use Rattle.report.specs.Sheets.{default_lines, equity_lines, lines_of, paid_lines, row_lines};
 
 use crate::line::Line;
 use book::Sheet;
 use std::alloc::{AllocError, Global};
 
-// One line for each claim.
+// One line for each claim on a debtor.
+fn push_row(lines: &mut Vec<Line>, sheet: &Sheet, debtor: u8) -> Result<(), AllocError>
+    requires { debtor < sheet.now.figures.n }
+    ensures { OnOk result (lines.new.items ≡ lines.old.items ++ row_lines sheet.now debtor sheet.now.figures.n) }
+{
+    let claims = &sheet.figures.claims[debtor as usize];
+    let paid = &sheet.paid[debtor as usize];
+    for (creditor, (claim, units)) in (0..sheet.figures.n).zip(claims.iter().zip(paid.iter())) {
+        if *claim != 0 {
+            lines.push(Line::Paid(debtor, creditor, *units))?;
+        }
+    }
+    Ok(())
+}
+
 fn push_payments(lines: &mut Vec<Line>, sheet: &Sheet) -> Result<(), AllocError>
     ensures { OnOk result (lines.new.items ≡ lines.old.items ++ paid_lines sheet.now sheet.now.figures.n) }
 {
-    let n = sheet.figures.n;
-    // a loop over the debtors, as nettext has it, whose one chain for all lines the check does not close
-    for (debtor, (claims, paid)) in (0..n).zip(sheet.figures.claims.iter().zip(&sheet.paid)) {
-        let row = (0..n).zip(claims.iter().zip(paid.iter()));
-        let claimed = row.filter(|(_, (claim, _))| **claim != 0);
-        lines.extend(claimed.map(|(creditor, (_, units))| Line::Paid(debtor, creditor, *units)))?;
+    for debtor in 0..sheet.figures.n {
+        push_row(lines, sheet, debtor)?;
     }
     Ok(())
 }
