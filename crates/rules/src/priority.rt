@@ -14,10 +14,10 @@ fn pay_in_order(estate: u32, claims: &[u32], awards: &mut [u32])
     requires { length awards.old ≡ length claims.now }
     ensures { awards.new ≡ priority estate claims.now }
 {
-    awards.copy_from_slice(claims);
     let mut left = estate;
-    for award in awards.iter_mut() {
-        *award = left.min(*award);
+    // Numbered and not zipped: of what a `zip` over `iter_mut` lends, a proof knows only the length.
+    for (k, award) in awards.iter_mut().enumerate() {
+        *award = left.min(claims[k]);
         left -= *award;
     }
 }

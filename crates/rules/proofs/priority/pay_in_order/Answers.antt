@@ -5,5 +5,5 @@ use Rattle.rules.proofs.priority.pay_in_order.Goals as goal
 
 pub returns : goal.returns
 returns c =
-    fill_by_all (priority_award c.args.estate c.args.claims.now) c.loop-award.awards _ 0 (omega arith)
-    (λ k lt. c.loop-award.invariant.1 k (omega arith))
+    fill_by_all (priority_award c.args.estate c.args.claims.now) c.loop-k.awards _ 0 (omega arith)
+    (λ k lt. c.loop-k.invariant.1 k (omega arith))
