@@ -104,7 +104,7 @@ pub fn random_network(heap: Global, dice: &mut Dice, scale: Scale) -> Result<Vec
 }
 
 // Gives so many random networks to a closure, each of a scale that is drawn for it; for one there may be no memory.
-pub fn each_network<S, F>(
+pub(crate) fn each_network<S, F>(
     heap: Global,
     dice: &mut Dice,
     count: u32,
