@@ -14,12 +14,13 @@ pub fn answered<T: Drop>(answer: Result<T, Halt>) -> Result<Result<T, Halt>, All
 }
 
 // The network of a file; a file that is not one to both sides counts as a difference.
-pub fn read_both(tally: &mut Tally, file: &[u8]) -> Result<Option<(Network, Draft)>, AllocError> {
+pub fn read_both(tally: &mut Tally, file: &[u8]) -> Option<(Network, Draft)> {
     match (read(file), draft_of(file)) {
-        (Ok(network), Some(draft)) => Ok(Some((network, draft))),
+        (Ok(network), Some(draft)) => Some((network, draft)),
         _ => {
-            tally.compare(file, "not a network to both sides", "")?;
-            Ok(None)
+            let text = String::from_str(tally.heap, "not a network to both sides");
+            tally.compare(file, text, Ok(String::new(tally.heap)));
+            None
         }
     }
 }

@@ -7,7 +7,7 @@ use std::alloc::{AllocError, Global};
 
 // A file, and what is settled that clear prints of it, if anything.
 #[derive(Drop)]
-pub struct Case {
+struct Case {
     file: Vec<u8>,
     settled: String,
 }
@@ -20,13 +20,13 @@ impl Case {
         }
     }
 
-    // Puts bytes behind the file; what is no digit is passed over.
-    fn push_hexadecimal(&mut self, heap: Global, text: &str) -> Result<(), AllocError> {
-        let digits = text.chars().filter_map(|c| c.to_digit(16));
-        let digits: Vec<u32> = digits.collect(heap)?;
-        for pair in digits.as_slice().chunks_exact(2) {
-            if let [high, low] = pair {
-                self.file.push(((high << 4 | low) & 0xff) as u8)?;
+    // Puts bytes behind the file; what is no digit is passed over, and so is a last digit without another.
+    fn push_hexadecimal(&mut self, text: &str) -> Result<(), AllocError> {
+        let mut open: Option<u32> = None;
+        for digit in text.chars().filter_map(|c| c.to_digit(16)) {
+            match open.take() {
+                Some(high) => self.file.push(((high << 4 | digit) & 0xff) as u8)?,
+                None => open = Some(digit),
             }
         }
         Ok(())
@@ -35,43 +35,46 @@ impl Case {
     fn push_settled(&mut self, line: &str) -> Result<(), AllocError> {
         writeln!(self.settled, "{line}")
     }
+
+    // The engine and the second implementation on the case, and the engine on what is settled of it.
+    fn compare(self, settled: &mut Tally, picked: &mut Tally) {
+        let Case {
+            file,
+            settled: text,
+        } = self;
+        let file = file.as_slice();
+        compare_clearing(picked, file);
+        if !text.is_empty() {
+            let engine = report_text(settled.heap, file);
+            settled.compare(file, engine, Ok(text));
+        }
+    }
 }
 
-// The cases of standard input.
-pub fn read_cases(rt: &(impl Input + AllocGlobal)) -> anyhow::Result<Vec<Case>> {
+// Compares each case of standard input at its end, so that one is held at a time.
+pub fn compare_cases(
+    rt: &(impl Input + AllocGlobal),
+    settled: &mut Tally,
+    picked: &mut Tally,
+) -> anyhow::Result<()> {
     let heap = rt.alloc();
-    let mut cases = Vec::new(heap);
-    let mut open = None;
+    let mut open: Option<Case> = None;
     for line in rt.lines(heap) {
         let line = line?;
         let line = line.as_str();
         if line.is_empty() {
-            cases.extend(open.take())?;
+            if let Some(case) = open.take() {
+                case.compare(settled, picked);
+            }
         } else if let Some(digits) = line.strip_prefix(">") {
             let case = open.get_or_insert_with(|| Case::new(heap));
-            case.push_hexadecimal(heap, digits)?;
+            case.push_hexadecimal(digits)?;
         } else if let Some(case) = &mut open {
             case.push_settled(line)?;
         }
     }
-    cases.extend(open)?;
-    Ok(cases)
-}
-
-// The engine and the second implementation on each case.
-pub fn compare_picked(tally: &mut Tally, cases: &[Case]) -> Result<(), AllocError> {
-    for case in cases {
-        compare_clearing(tally, case.file.as_slice())?;
-    }
-    Ok(())
-}
-
-// The engine on each case for which it is settled what clear prints.
-pub fn compare_settled_cases(tally: &mut Tally, cases: &[Case]) -> Result<(), AllocError> {
-    for case in cases.iter().filter(|case| !case.settled.is_empty()) {
-        let file = case.file.as_slice();
-        let engine = report_text(tally.heap, file)?;
-        tally.compare(file, engine.as_str(), case.settled.as_str())?;
+    if let Some(case) = open {
+        case.compare(settled, picked);
     }
     Ok(())
 }

@@ -1,5 +1,5 @@
 // Networks at the limits, and just past them.
-use crate::clearings::compare_clearing;
+use crate::clearings::compare_made;
 use crate::records::Records;
 use crate::tally::Tally;
 use std::alloc::{AllocError, Global};
@@ -42,45 +42,43 @@ impl Alike {
         file.finish()
     }
 
-    fn compare(self, tally: &mut Tally) -> Result<(), AllocError> {
-        let file = self.file(tally.heap)?;
-        compare_clearing(tally, file.as_slice())
+    fn compare(self, tally: &mut Tally) {
+        let file = self.file(tally.heap);
+        compare_made(tally, file);
     }
 }
 
 // The number of members and the length of the file.
-fn compare_sizes(tally: &mut Tally) -> Result<(), AllocError> {
+fn compare_sizes(tally: &mut Tally) {
     for n in [0, 1, 2, 31, 32, 33, 255] {
         Alike {
             n,
             dense: false,
             ..TWO
         }
-        .compare(tally)?;
+        .compare(tally);
     }
     for length in [0, 1, 65_536, 65_537] {
-        let file = vec![in tally.heap; 0u8; length]?;
-        compare_clearing(tally, file.as_slice())?;
+        let file = vec![in tally.heap; 0u8; length];
+        compare_made(tally, file);
     }
-    Ok(())
 }
 
 // What is entered of a member, and of a claim.
-fn compare_entries(tally: &mut Tally) -> Result<(), AllocError> {
+fn compare_entries(tally: &mut Tally) {
     for class in [0, 1, 7, 8, 255] {
-        Alike { class, ..TWO }.compare(tally)?;
+        Alike { class, ..TWO }.compare(tally);
     }
     for endowment in [0, 999_999, 1_000_000, 1_000_001, u32::MAX] {
-        Alike { endowment, ..TWO }.compare(tally)?;
+        Alike { endowment, ..TWO }.compare(tally);
     }
     for units in [0, 1, 9_999, 10_000, 10_001, 65_536, u32::MAX] {
-        Alike { units, ..TWO }.compare(tally)?;
+        Alike { units, ..TWO }.compare(tally);
     }
-    Ok(())
 }
 
 // All of the largest at once, under every rule; where every member claims of every other, under priority.
-fn compare_largest(tally: &mut Tally) -> Result<(), AllocError> {
+fn compare_largest(tally: &mut Tally) {
     let largest = Alike {
         n: 32,
         house: 0,
@@ -89,27 +87,26 @@ fn compare_largest(tally: &mut Tally) -> Result<(), AllocError> {
         units: 10_000,
         dense: true,
     };
-    largest.compare(tally)?;
+    largest.compare(tally);
     for house in 0..=5u8 {
         Alike {
             house,
             dense: false,
             ..largest
         }
-        .compare(tally)?;
+        .compare(tally);
         Alike {
             n: 4,
             house,
             endowment: 20_000,
             ..largest
         }
-        .compare(tally)?;
+        .compare(tally);
     }
-    Ok(())
 }
 
-pub fn compare_limits(tally: &mut Tally) -> Result<(), AllocError> {
-    compare_sizes(tally)?;
-    compare_entries(tally)?;
-    compare_largest(tally)
+pub fn compare_limits(tally: &mut Tally) {
+    compare_sizes(tally);
+    compare_entries(tally);
+    compare_largest(tally);
 }

@@ -35,15 +35,15 @@ fn compare_life(
     requests: &[Request],
     tasks: &[Task],
     sheet: &Sheet,
-) -> Result<(), AllocError> {
-    let text = life_text(tally.heap, tasks, sheet)?;
-    let expected = expected_text(tally.heap, network, requests)?;
-    tally.compare(file, text.as_str(), expected.as_str())
+) {
+    let text = life_text(tally.heap, tasks, sheet);
+    let expected = expected_text(tally.heap, network, requests);
+    tally.compare(file, text, expected);
 }
 
 // Two lives on one network: each with the second implementation, and their settlements with each other.
 fn compare_on(dice: &mut Dice, tally: &mut Tally, file: &[u8]) -> Result<(), AllocError> {
-    let (Some((network, draft)), Some(twin)) = (read_both(tally, file)?, draft_of(file)) else {
+    let (Some((network, draft)), Some(twin)) = (read_both(tally, file), draft_of(file)) else {
         return Ok(());
     };
     let heap = tally.heap;
@@ -61,12 +61,13 @@ fn compare_on(dice: &mut Dice, tally: &mut Tally, file: &[u8]) -> Result<(), All
         other_tasks.as_mut_slice(),
     );
     let (requests, tasks) = (requests.as_slice(), tasks.as_slice());
-    compare_life(tally, file, &network, requests, tasks, &sheet)?;
+    compare_life(tally, file, &network, requests, tasks, &sheet);
     let (requests, tasks) = (others.as_slice(), other_tasks.as_slice());
-    compare_life(tally, file, &network, requests, tasks, &other_sheet)?;
-    let settlement = settlement_text(heap, sheet)?;
-    let other = settlement_text(heap, other_sheet)?;
-    tally.compare(file, settlement.as_str(), other.as_str())
+    compare_life(tally, file, &network, requests, tasks, &other_sheet);
+    let settlement = settlement_text(heap, sheet);
+    let other = settlement_text(heap, other_sheet);
+    tally.compare(file, settlement, other);
+    Ok(())
 }
 
 pub fn compare_lives(dice: &mut Dice, tally: &mut Tally, count: u32) -> Result<(), AllocError> {
@@ -76,6 +77,6 @@ pub fn compare_lives(dice: &mut Dice, tally: &mut Tally, count: u32) -> Result<(
         largest: 20,
     };
     each_network(tally.heap, dice, count, scale, |dice, file| {
-        compare_on(dice, tally, file)
+        compare_on(dice, tally, file?.as_slice())
     })
 }

@@ -19,7 +19,7 @@ mod settled;
 mod shapes;
 mod tally;
 
-use crate::cases::{compare_picked, compare_settled_cases, read_cases};
+use crate::cases::compare_cases;
 use crate::clearings::{compare_damaged, compare_networks};
 use crate::dice::Dice;
 use crate::divisions::compare_divisions;
@@ -71,18 +71,20 @@ const WORKING: [Cause; 4] = [
 const DIVIDING: [Cause; 2] = [Cause::ListLength, Cause::ListedClaimTooLarge];
 
 fn main(rt: HostRuntime) -> anyhow::Result<ExitCode> {
-    let cases = read_cases(&rt)?;
-    let cases = cases.as_slice();
+    let mut settled = Tally::new(rt.alloc());
+    let mut picked = Tally::new(rt.alloc());
+    compare_cases(&rt, &mut settled, &mut picked)?;
+    compare_settled(&mut settled);
+    settled.print(&rt, "settled examples", &[])?;
+    picked.print(&rt, "hand-picked files", &[])?;
     let mut dice = Dice::seeded(20_011);
     let agree = [
-        compare(&rt, "settled examples", &[], |tally| {
-            compare_settled_cases(tally, cases)?;
-            compare_settled(tally)
+        settled.agrees(),
+        picked.agrees(),
+        compare(&rt, "limits", &[], |tally| {
+            compare_limits(tally);
+            Ok(())
         })?,
-        compare(&rt, "hand-picked files", &[], |tally| {
-            compare_picked(tally, cases)
-        })?,
-        compare(&rt, "limits", &[], compare_limits)?,
         compare(&rt, "random divisions", &DIVIDING, |tally| {
             compare_divisions(&mut dice, tally, 2_000)
         })?,

@@ -103,8 +103,8 @@ pub fn random_network(heap: Global, dice: &mut Dice, scale: Scale) -> Result<Vec
     file.finish()
 }
 
-// Gives so many random networks to a closure, each of a scale that is drawn for it.
-pub fn each_network<S, F>(
+// Gives so many random networks to a closure, each of a scale that is drawn for it; for one there may be no memory.
+pub(crate) fn each_network<S, F>(
     heap: Global,
     dice: &mut Dice,
     count: u32,
@@ -113,14 +113,14 @@ pub fn each_network<S, F>(
 ) -> Result<(), AllocError>
 where
     S: Fn(&mut Dice) -> Scale,
-    F: FnMut(&mut Dice, &[u8]) -> Result<(), AllocError>,
+    F: FnMut(&mut Dice, Result<Vec<u8>, AllocError>) -> Result<(), AllocError>,
     requires scales { S.IsAlwaysCallable scale }
     requires visits { F.IsAlwaysCallable visit }
 {
     for _network in 0..count {
         let scale = scale(dice);
-        let file = random_network(heap, dice, scale)?;
-        visit(dice, file.as_slice())?;
+        let file = random_network(heap, dice, scale);
+        visit(dice, file)?;
     }
     Ok(())
 }

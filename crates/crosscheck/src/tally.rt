@@ -1,5 +1,6 @@
 // Counting what was compared, and keeping the first difference.
 use crate::refusals::Refusals;
+use anyhow::ensure;
 use network::Cause;
 use std::alloc::{AllocError, Global};
 use std::fmt;
@@ -23,7 +24,8 @@ impl fmt::Display for Difference {
     }
 }
 
-// How many cases were compared and how many differ, the refusals in them, and the first case that differs.
+// How many cases were compared and how many differ, the refusals in them, the first case that differs, and whether a
+// case was lost for want of memory.
 #[derive(Drop)]
 pub struct Tally {
     pub heap: Global,
@@ -31,6 +33,7 @@ pub struct Tally {
     differ: u32,
     refusals: Refusals,
     first: Option<Difference>,
+    lost: bool,
 }
 
 impl fmt::Display for Tally {
@@ -48,31 +51,57 @@ impl Tally {
             differ: 0,
             refusals: Refusals::none(heap),
             first: None,
+            lost: false,
         }
     }
 
-    // Compares what the engine and the other side say of an input.
-    pub fn compare(&mut self, input: &[u8], engine: &str, other: &str) -> Result<(), AllocError> {
+    // Compares what the engine and the other side say of an input. Where there is no memory for a text the case is lost,
+    // and the others go on.
+    pub fn compare(
+        &mut self,
+        input: &[u8],
+        engine: Result<String, AllocError>,
+        other: Result<String, AllocError>,
+    ) {
+        if self.note(input, engine, other).is_err() {
+            self.lose();
+        }
+    }
+
+    // Notes that there was no memory for a case.
+    pub fn lose(&mut self) {
+        self.lost = true;
+    }
+
+    fn note(
+        &mut self,
+        input: &[u8],
+        engine: Result<String, AllocError>,
+        other: Result<String, AllocError>,
+    ) -> Result<(), AllocError> {
+        let (engine, other) = (engine?, other?);
         self.compared = self.compared.saturating_add(1);
-        self.refusals.count(engine)?;
+        // a difference is noted even where its refusals are not
+        let counted = self.refusals.count(engine.as_str());
         if engine != other {
             self.differ = self.differ.saturating_add(1);
             if self.first.is_none() {
                 self.first = Some(Difference {
                     input: input.to_vec(self.heap)?,
-                    engine: String::from_str(self.heap, engine)?,
-                    other: String::from_str(self.heap, other)?,
+                    engine,
+                    other,
                 });
             }
         }
-        Ok(())
+        counted
     }
 
     pub fn agrees(&self) -> bool {
         self.first.is_none()
     }
 
-    // Prints the count, and if something differs the first difference and how often each of these faults came up.
+    // Prints the count, and if something differs the first difference and how often each of these faults came up. Ends with
+    // an error if a case was lost.
     pub fn print(&self, rt: &impl Print, name: &str, faults: &[Cause]) -> anyhow::Result<()> {
         println!(rt; "{name}: {self}")?;
         if let Some(first) = &self.first {
@@ -83,6 +112,7 @@ impl Tally {
                 println!(rt; "  refused by fault {number}: {times}")?;
             }
         }
+        ensure!(!self.lost, "a case was lost for want of memory");
         Ok(())
     }
 }

@@ -23,7 +23,7 @@ struct Flow {
 impl Flow {
     fn start(network: &Network) -> Flow {
         let mut flow = Flow::default();
-        for (purse, member) in flow.purses.iter_mut().zip(network.members()) {
+        for (purse, member) in flow.purses.iter_mut().zip(&network.members) {
             purse.estate = member.endowment;
         }
         flow

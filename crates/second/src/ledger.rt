@@ -1,6 +1,6 @@
 // A book that is worked request by request.
 use crate::cause::Cause;
-use crate::network::{Member, Network};
+use crate::network::Network;
 use crate::payments::Payments;
 use crate::queue::front;
 use crate::refusal::Refusal;
@@ -23,27 +23,25 @@ impl Ledger {
         }
     }
 
-    fn member(&self, number: usize) -> Result<&Member, Cause> {
-        let members = self.network.members();
-        members.get(number).ok_or(Cause::NoSuchMember)
+    // Every number below the count is a member's; one past the 32 places has nothing and owes nothing.
+    fn admit(&self, member: usize) -> Result<(), Cause> {
+        if member < self.network.count {
+            Ok(())
+        } else {
+            Err(Cause::NoSuchMember)
+        }
     }
 
     fn estate(&self, member: usize) -> Result<u32, Cause> {
-        let endowment = self.member(member)?.endowment;
+        self.admit(member)?;
+        let members = self.network.members();
+        let endowment = members.get(member).map_or(0, |member| member.endowment);
         Ok(endowment.saturating_add(self.payments.total_to(member)))
     }
 
     fn paid_row(&self, debtor: usize) -> Result<&Row, Cause> {
-        self.member(debtor)?;
-        self.payments.rows.get(debtor).ok_or(Cause::NoSuchMember)
-    }
-
-    fn paid_row_mut(&mut self, debtor: usize) -> Result<&mut Row, Cause> {
-        self.member(debtor)?;
-        self.payments
-            .rows
-            .get_mut(debtor)
-            .ok_or(Cause::NoSuchMember)
+        self.admit(debtor)?;
+        Ok(self.payments.row(debtor))
     }
 
     // Nothing is due from a member without a queue.
@@ -56,14 +54,22 @@ impl Ledger {
         )
     }
 
-    // What is due from a debtor that has not receded, and the units that it has not paid of it yet.
-    fn open_row(&self, queues: &[Vec<u8>], debtor: usize) -> Result<(Row, u32), Cause> {
+    // What is due from a debtor that has not receded. (The queues may know more creditors than there are members.)
+    fn open_row(&self, queues: &[Vec<u8>], debtor: usize) -> Result<Row, Cause> {
         let due = self.due_row(queues, debtor)?;
-        let paid = self.paid_row(debtor)?;
-        if paid.exceeds(&due) {
+        if self.paid_row(debtor)?.exceeds(&due, self.network.count) {
             return Err(Cause::Receded);
         }
-        Ok((due, due.total().saturating_sub(paid.total())))
+        Ok(due)
+    }
+
+    // The same, and the units that it has not paid of it yet.
+    fn open_units(&self, queues: &[Vec<u8>], debtor: usize) -> Result<(Row, u32), Cause> {
+        let due = self.open_row(queues, debtor)?;
+        let units = due
+            .total()
+            .saturating_sub(self.payments.row(debtor).total());
+        Ok((due, units))
     }
 
     fn pay(
@@ -73,24 +79,28 @@ impl Ledger {
         creditor: usize,
         units: u32,
     ) -> Result<u32, Cause> {
-        self.member(debtor)?;
-        self.member(creditor)?;
+        self.admit(debtor)?;
+        self.admit(creditor)?;
         if units == 0 {
             return Err(Cause::NoUnits);
         }
-        let (due, _) = self.open_row(queues, debtor)?;
-        let row = self.paid_row_mut(debtor)?;
-        let paid = row.at(creditor);
+        let due = self.open_row(queues, debtor)?;
+        let paid = self.payments.row(debtor).at(creditor);
         if units > due.at(creditor).saturating_sub(paid) {
             return Err(Cause::AboveDue);
         }
-        row.put(creditor, paid.saturating_add(units));
-        Ok(row.at(creditor))
+        let paid = paid.saturating_add(units);
+        if let Some(row) = self.payments.rows.get_mut(debtor) {
+            row.put(creditor, paid);
+        }
+        Ok(paid)
     }
 
     fn settle(&mut self, queues: &[Vec<u8>], member: usize) -> Result<u32, Cause> {
-        let (due, units) = self.open_row(queues, member)?;
-        *self.paid_row_mut(member)? = due;
+        let (due, units) = self.open_units(queues, member)?;
+        if let Some(row) = self.payments.rows.get_mut(member) {
+            *row = due;
+        }
         Ok(units)
     }
 
@@ -106,7 +116,7 @@ impl Ledger {
     }
 
     fn paid(&self, debtor: usize, creditor: usize) -> Result<u32, Cause> {
-        self.member(creditor)?;
+        self.admit(creditor)?;
         Ok(self.paid_row(debtor)?.at(creditor))
     }
 
@@ -116,14 +126,14 @@ impl Ledger {
     }
 
     fn due(&self, queues: &[Vec<u8>], debtor: usize, creditor: usize) -> Result<u32, Cause> {
-        self.member(creditor)?;
+        self.admit(creditor)?;
         Ok(self.due_row(queues, debtor)?.at(creditor))
     }
 
     // The first member whose settle would be accepted and move a unit.
     fn next(&self, queues: &[Vec<u8>]) -> Option<usize> {
         (0..self.network.members().len()).find(|member| {
-            self.open_row(queues, *member)
+            self.open_units(queues, *member)
                 .is_ok_and(|(_, units)| units > 0)
         })
     }

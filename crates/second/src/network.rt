@@ -13,11 +13,12 @@ pub struct Member {
 }
 
 // How many members there are, and what is entered of them. The members stand in an array and in no Vec, so that reading
-// a network cannot run out of memory.
+// a network cannot run out of memory. Whoever sets the count changes who is lent, worked and printed: classes, claims and
+// endowments are those of all 32 places.
 #[derive(Clone, Copy, Default)]
 pub struct Network {
     pub count: usize,
-    members: [Member; 32],
+    pub(crate) members: [Member; 32],
 }
 
 impl Network {
@@ -42,10 +43,10 @@ impl Network {
         }
     }
 
-    // The class of each member, and 0 past them.
+    // The class in each of the 32 places, 0 where nobody was entered.
     pub fn classes(&self) -> [u8; 32] {
         let mut classes = [0; 32];
-        for (class, member) in classes.iter_mut().zip(self.members()) {
+        for (class, member) in classes.iter_mut().zip(&self.members) {
             *class = member.class;
         }
         classes
@@ -53,7 +54,7 @@ impl Network {
 
     // All claims together.
     pub fn units_of_claims(&self) -> u32 {
-        self.members()
+        self.members
             .iter()
             .map(|member| member.claims.total())
             .fold(0, u32::saturating_add)

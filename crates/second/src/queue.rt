@@ -36,15 +36,16 @@ impl Rules {
         }
     }
 
-    // The queue of each member of a network.
+    // The queue of each member of a network; past the 32 places a member owes nothing.
     pub fn queues(self, heap: Global, network: &Network) -> Result<Vec<Vec<u8>>, AllocError> {
         let classes = network.classes();
-        network
-            .members()
-            .iter()
-            .map(|member| {
-                let rule = self.of_house(member.house);
-                queue_of(heap, rule, &classes, member.claims.as_slice())
+        (0..network.count)
+            .map(|debtor| match network.members.get(debtor) {
+                Some(member) => {
+                    let rule = self.of_house(member.house);
+                    queue_of(heap, rule, &classes, member.claims.as_slice())
+                }
+                None => Ok(Vec::new(heap)),
             })
             .try_collect(heap)
     }

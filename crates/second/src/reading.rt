@@ -12,6 +12,17 @@ enum Kind {
     End,
 }
 
+impl Kind {
+    fn body_length(self) -> usize {
+        match self {
+            Kind::Network => 1,
+            Kind::Member => 7,
+            Kind::Claim => 6,
+            Kind::End => 0,
+        }
+    }
+}
+
 impl TryFrom<u8> for Kind {
     type Error = Cause;
 
@@ -76,14 +87,16 @@ impl Record {
         &self.body[..self.length.min(7)]
     }
 
-    // The record with one more byte of its body.
-    fn with(mut self, value: u8) -> Record {
-        let length = self.length;
-        if let Some(place) = self.body.get_mut(length) {
+    // Takes one more byte of the body.
+    fn push(&mut self, value: u8) {
+        if let Some(place) = self.body.get_mut(self.length) {
             *place = value;
-            self.length = length.saturating_add(1);
+            self.length = self.length.saturating_add(1);
         }
-        self
+    }
+
+    fn is_whole(&self) -> bool {
+        self.length >= self.kind.body_length()
     }
 
     fn in_file(&self, cause: Cause) -> Refusal {
@@ -118,20 +131,22 @@ impl Reader {
 
     // A record begins with its kind.
     fn take(&mut self, byte: usize, value: u8) -> Result<(), Refusal> {
-        let record = match self.record {
-            Some(record) => record.with(value),
+        match &mut self.record {
+            Some(record) => record.push(value),
             None => {
                 let kind = self.due.kind_of(value);
                 let kind = kind.map_err(|cause| Refusal::File { cause, byte })?;
-                Record::new(kind, byte)
+                self.record = Some(Record::new(kind, byte));
             }
-        };
-        self.record = (!self.end(&record)?).then_some(record);
-        Ok(())
+        }
+        match self.record.take_if(|record| record.is_whole()) {
+            Some(record) => self.end(&record),
+            None => Ok(()),
+        }
     }
 
-    // Takes what a record says once its body is whole. Answers whether it is.
-    fn end(&mut self, record: &Record) -> Result<bool, Refusal> {
+    // Takes what a whole record says.
+    fn end(&mut self, record: &Record) -> Result<(), Refusal> {
         match (record.kind, record.body()) {
             (Kind::Network, &[count]) => self.end_network(record, count)?,
             (Kind::Member, &[given, house, class, a, b, c, d]) => {
@@ -148,9 +163,10 @@ impl Reader {
                 self.end_claim(record, debtor, creditor, units)?
             }
             (Kind::End, []) => self.due = Due::Nothing,
-            _ => return Ok(false),
+            // of no kind is a whole body of another length
+            _ => {}
         }
-        Ok(true)
+        Ok(())
     }
 
     fn end_network(&mut self, record: &Record, count: u8) -> Result<(), Refusal> {

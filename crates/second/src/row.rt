@@ -8,6 +8,9 @@ pub struct Row {
     units: [u32; 32],
 }
 
+// The row that is lent where there is none.
+pub(crate) static BLANK: Row = Row { units: [0; 32] };
+
 impl Row {
     pub(crate) fn as_slice(&self) -> &[u32] {
         &self.units
@@ -34,11 +37,12 @@ impl Row {
         self.units.iter().copied().fold(0, u32::saturating_add)
     }
 
-    // Whether some entry is above the other row's.
-    pub(crate) fn exceeds(&self, other: &Row) -> bool {
+    // Whether one of the first entries is above the other row's.
+    pub(crate) fn exceeds(&self, other: &Row, entries: usize) -> bool {
         self.units
             .iter()
             .zip(other.units.iter())
+            .take(entries)
             .any(|(units, others)| units > others)
     }
 }

@@ -58,7 +58,7 @@ impl Sheet<'_> {
         let rows = self.network.members().iter().zip(self.payments.rows.iter());
         for (debtor, (member, row)) in rows.enumerate() {
             let entries = member.claims.as_slice().iter().zip(row.as_slice());
-            for (creditor, (claim, paid)) in entries.enumerate() {
+            for (creditor, (claim, paid)) in entries.take(self.network.count).enumerate() {
                 if *claim > 0 {
                     writeln!(f, "paid {debtor} {creditor} {paid}")?;
                 }
@@ -74,6 +74,10 @@ impl Sheet<'_> {
             let estate = member.endowment.saturating_add(received);
             let equity = estate.saturating_sub(row.total());
             writeln!(f, "equity {number} {equity}")?;
+        }
+        // past the 32 places a member has nothing
+        for number in 32..self.network.count {
+            writeln!(f, "equity {number} 0")?;
         }
         Ok(())
     }
