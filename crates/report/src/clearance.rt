@@ -1,5 +1,6 @@
 // Clearing a network file: what is reported of any string of bytes.
-ghost use Rattle.std.specs.Prelude.{◌≡◌, IfErr, IfOk, alloc_error, string_bytes};
+ghost use Rattle.std.specs.Prelude.{◌≡◌, ◌≤◌, length, IfErr, IfOk, None, alloc_error, slice_index, string_bytes};
+ghost use Rattle.netfile.specs.Records.{counted_fault};
 ghost use Rattle.report.specs.declared.clearance.Halt.TheVariants.{Refused, NoMemory};
 ghost use Rattle.report.specs.declared.line.Line.TheVariants.{Fault as Refusal};
 ghost use Rattle.report.specs.Clearances.{Clears, Reported};
@@ -9,7 +10,7 @@ use crate::line::{Line, print};
 use crate::statement::sheet_lines;
 use book::Book;
 use netfile::{count, load};
-use network::{Draft, Fault};
+use network::{Draft, Fault, MemberCount};
 use rules::ring_rulebook;
 use std::alloc::{AllocError, Global};
 
@@ -56,6 +57,18 @@ fn sheet_text(heap: Global, input: &[u8]) -> Result<String, Halt>
         return Err(Halt::Refused(Line::TooLong));
     }
     let count = count(input)?;
+    counted_text(heap, input, count)
+}
+
+// The same of an input whose members are counted. (A function of its own: one takes its time at entry by the size of its
+// tables, and an input whose count is refused needs none.)
+fn counted_text(heap: Global, input: &[u8], count: MemberCount) -> Result<String, Halt>
+    requires short { length input.now ≤ 65536 }
+    requires accepted { counted_fault input.now ≡ None }
+    requires counted { count.n ≡ slice_index input.now 1 }
+    ensures cleared { IfOk result (λ text. Clears input.now (string_bytes text)) }
+    ensures halted { IfErr result (Halts input.now) }
+{
     let mut draft = Draft::new(count);
     load(&mut draft, input)?;
     let rulebook = ring_rulebook(draft.figures());

@@ -40,9 +40,14 @@ fn push_equities(lines: &mut Vec<Line>, sheet: &Sheet) -> Result<(), AllocError>
 fn push_defaults(lines: &mut Vec<Line>, sheet: &Sheet) -> Result<(), AllocError>
     ensures { OnOk result (lines.new.items ≡ lines.old.items ++ default_lines sheet.now sheet.now.figures.n) }
 {
-    let members = (0..sheet.figures.n).zip(&sheet.defaults);
-    let defaults = members.filter(|(_, defaulted)| **defaulted);
-    lines.extend(defaults.map(|(member, _)| Line::Default(member)))
+    // by an index, so that the edit which takes an equity of 0 for a default differs in the value alone
+    for member in 0..sheet.figures.n {
+        let defaulted = sheet.defaults[member as usize];
+        if defaulted {
+            lines.push(Line::Default(member))?;
+        }
+    }
+    Ok(())
 }
 
 // What is paid on each claim in the order of the file, each member's equity, who defaults, and the

@@ -1,4 +1,4 @@
-use Rattle.std.proofs.Common.{◌∙◌, ap, arith, [], sym, refl, subst}
+use Rattle.std.proofs.Common.{◌∙◌, ap, [], sym, refl, subst}
 use Rattle.network.specs.declared.draft.Draft.{Draft}
 use Rattle.network.specs.declared.figures.Figures.{Figures}
 use Rattle.rules.specs.Classes.{classes_of}
@@ -8,7 +8,7 @@ use Rattle.book.specs.Tables.{cells, network_of}
 use Rattle.book.specs.Rulebooks.{division}
 use Rattle.book.specs.Lives.{EqualDrafts, Life, rest}
 use Rattle.report.specs.Lines.{printed}
-use Rattle.report.proofs.clearance.sheet_text.Goals as goal
+use Rattle.report.proofs.clearance.counted_text.Goals as goal
 
 same : (draft : Draft) → EqualDrafts draft draft
 same draft = record { members = refl; endowments = λ i _. refl; houses = λ i _. refl; claims = λ i j _ _. refl }
@@ -25,7 +25,7 @@ returns-clause-cleared c =
       draft = draft;
       rulebook = rulebook;
       sheet = sheet;
-      short = omega arith;
+      short = c.requires.short;
       file = c.in_ok-load.ensures.loaded.1;
       houses = subst (λ (F : Figures). RingRules (ring_rule (ring_classes rulebook)) (classes_of F)) c.figures.ensures c.ring_rulebook-rulebook.ensures.rules;
       life = life;
