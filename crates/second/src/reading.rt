@@ -63,14 +63,14 @@ impl Due {
     }
 }
 
-// The record that is being read: its kind, its first byte, and its body so far. The body stands in an array and in no
-// Vec, so that reading cannot run out of memory.
+// The record that is being read: its kind, its first byte, its body so far, and how many bytes it lacks. The body is a
+// number: bytes that are put into an array one by one are read from it half as quickly.
 #[derive(Clone, Copy)]
 struct Record {
     kind: Kind,
     byte: usize,
-    body: [u8; 7],
-    length: usize,
+    body: u64,
+    missing: usize,
 }
 
 impl Record {
@@ -78,25 +78,19 @@ impl Record {
         Record {
             kind,
             byte,
-            body: [0; 7],
-            length: 0,
+            body: 0,
+            missing: kind.body_length(),
         }
-    }
-
-    fn body(&self) -> &[u8] {
-        &self.body[..self.length.min(7)]
     }
 
     // Takes one more byte of the body.
     fn push(&mut self, value: u8) {
-        if let Some(place) = self.body.get_mut(self.length) {
-            *place = value;
-            self.length = self.length.saturating_add(1);
-        }
+        self.body = self.body << 8 | u64::from(value);
+        self.missing = self.missing.saturating_sub(1);
     }
 
     fn is_whole(&self) -> bool {
-        self.length >= self.kind.body_length()
+        self.missing == 0
     }
 
     fn in_file(&self, cause: Cause) -> Refusal {
@@ -147,9 +141,9 @@ impl Reader {
 
     // Takes what a whole record says.
     fn end(&mut self, record: &Record) -> Result<(), Refusal> {
-        match (record.kind, record.body()) {
-            (Kind::Network, &[count]) => self.end_network(record, count)?,
-            (Kind::Member, &[given, house, class, a, b, c, d]) => {
+        match (record.kind, record.body.to_be_bytes()) {
+            (Kind::Network, [.., count]) => self.end_network(record, count)?,
+            (Kind::Member, [_, given, house, class, a, b, c, d]) => {
                 let member = Member {
                     house,
                     class,
@@ -158,13 +152,11 @@ impl Reader {
                 };
                 self.end_member(record, given, member)?
             }
-            (Kind::Claim, &[debtor, creditor, a, b, c, d]) => {
+            (Kind::Claim, [_, _, debtor, creditor, a, b, c, d]) => {
                 let units = u32::from_be_bytes([a, b, c, d]);
                 self.end_claim(record, debtor, creditor, units)?
             }
-            (Kind::End, []) => self.due = Due::Nothing,
-            // of no kind is a whole body of another length
-            _ => {}
+            (Kind::End, _) => self.due = Due::Nothing,
         }
         Ok(())
     }
